@@ -14,7 +14,7 @@ use Rattle.std.proofs.shelf.Sorted.{shuffled-refl, shuffled-cons, shuffled-tran
 use Rattle.std.proofs.shelf.Tests.{cases-bool, cond-both, both-ways}
 use Rattle.event.specs.declared.Key.{Key}
 use Rattle.event.specs.Keys.{before}
-use Rattle.event.specs.Lists.{insert, insertAll, Sorted, Rising}
+use Rattle.event.specs.Lists.{insert, insertAll, Sorted, Rising, Distinct}
 use Rattle.event.proofs.Orders.{never, chain, through, not-back, apart}
 
 -- two in front change places
@@ -107,17 +107,65 @@ module _ {X : Type 0} (key : X → Key) where
   sorted-from-rising (x ∷ xs) h =
       (all-weaker (λ y. before (key x) (key y) ≡ true) (λ y. before (key y) (key x) ≡ false) (λ y b. not-back (key x) (key y) b) xs (h .0), sorted-from-rising xs (h .1))
 
-  -- keys go on strictly ascending if none is that of m
-  pub rising-insert : (m : X) (xs : List X) → All (λ y. key m ≡ key y → ⊥) xs → Rising key xs → Rising key (insert key m xs)
-  rising-insert m [] n h = (tt, tt)
-  rising-insert m (x ∷ xs) n h =
+  pub insertAll-append : (ms ns xs : List X) → insertAll key (ms ++ ns) xs ≡ insertAll key ns (insertAll key ms xs)
+  insertAll-append [] ns xs = refl
+  insertAll-append (m ∷ ms) ns xs = insertAll-append ms ns (insert key m xs)
+
+  -- behind a front that comes before m, keys go on strictly ascending if none is that of m
+  pub rising-insert : (front : List X) (m : X) (xs : List X) → All (λ f. before (key f) (key m) ≡ true) front → All (λ y. key m ≡ key y → ⊥) xs
+      → Rising key (front ++ xs) → Rising key (front ++ insert key m xs)
+  rising-insert (f ∷ front) m xs a n h = (reach front (h .0), rising-insert front m xs (a .1) n (h .1))
+    where
+      reach : (ys : List X) → All (λ y. before (key f) (key y) ≡ true) (ys ++ xs) → All (λ y. before (key f) (key y) ≡ true) (ys ++ insert key m xs)
+      reach [] g = all-insert (λ y. before (key f) (key y) ≡ true) m xs (a .0) g
+      reach (y ∷ ys) g = (g .0, reach ys (g .1))
+  rising-insert [] m [] a n h = (tt, tt)
+  rising-insert [] m (x ∷ xs) a n h =
       cond-both (before (key m) (key x)) (m ∷ x ∷ xs) (x ∷ insert key m xs) (Rising key)
       (λ b. ((b, all-weaker (λ y. before (key x) (key y) ≡ true) (λ y. before (key m) (key y) ≡ true) (λ y k. chain (key m) (key x) (key y) b k) xs (h .0)), h))
-      (λ b. (all-insert (λ y. before (key x) (key y) ≡ true) m xs (after b (cases-bool (before (key x) (key m)))) (h .0), rising-insert m xs (n .1) (h .1)))
+      (λ b. (all-insert (λ y. before (key x) (key y) ≡ true) m xs (after b (cases-bool (before (key x) (key m)))) (h .0), rising-insert [] m xs tt (n .1) (h .1)))
     where
       after : before (key m) (key x) ≡ false → (before (key x) (key m) ≡ true) ⊎ (before (key x) (key m) ≡ false) → before (key x) (key m) ≡ true
       after b (inl t) = t
       after b (inr t) = absurd (n .0 (apart (key m) (key x) b t))
+
+  -- the same of several, no two of which have one key
+  pub rising-insertAll : (front ms xs : List X) → All (λ m. All (λ f. before (key f) (key m) ≡ true) front) ms → Distinct key ms
+      → All (λ m. All (λ y. key m ≡ key y → ⊥) xs) ms → Rising key (front ++ xs) → Rising key (front ++ insertAll key ms xs)
+  rising-insertAll front [] xs a d n h = h
+  rising-insertAll front (m ∷ ms) xs a d n h =
+      rising-insertAll front ms (insert key m xs) (a .1) (d .1) (grow ms (d .0) (n .1)) (rising-insert front m xs (a .0) (n .0) h)
+    where
+      grow : (ys : List X) → All (λ y. key m ≡ key y → ⊥) ys → All (λ y. All (λ x. key y ≡ key x → ⊥) xs) ys → All (λ y. All (λ x. key y ≡ key x → ⊥) (insert key m xs)) ys
+      grow [] e f = tt
+      grow (y ∷ ys) e f = (all-insert (λ x. key y ≡ key x → ⊥) m xs (λ k. e .0 (sym k)) (f .0), grow ys (e .1) (f .1))
+
+  pub distinct-kept-by : (p : X → Bool) (xs : List X) → Distinct key xs → Distinct key (kept-by p xs)
+  distinct-kept-by p [] d = tt
+  distinct-kept-by p (x ∷ xs) d =
+      cond-both (p x) (x ∷ kept-by p xs) (kept-by p xs) (Distinct key)
+      (λ _. (all-kept-by p (λ y. key x ≡ key y → ⊥) xs (d .0), distinct-kept-by p xs (d .1))) (λ _. distinct-kept-by p xs (d .1))
+
+  -- a front ascends by itself, and comes before all that follows it
+  pub rising-front : (front : List X) (m : X) (xs : List X) → Rising key (front ++ m ∷ xs) → All (λ f. before (key f) (key m) ≡ true) front
+  rising-front [] m xs h = tt
+  rising-front (f ∷ front) m xs h = (reach front (h .0), rising-front front m xs (h .1))
+    where
+      reach : (ys : List X) → All (λ y. before (key f) (key y) ≡ true) (ys ++ m ∷ xs) → before (key f) (key m) ≡ true
+      reach [] g = g .0
+      reach (y ∷ ys) g = reach ys (g .1)
+
+  pub rising-back : (front xs : List X) → Rising key (front ++ xs) → Rising key xs
+  rising-back [] xs h = h
+  rising-back (f ∷ front) xs h = rising-back front xs (h .1)
+
+  pub rising-start : (front xs : List X) → Rising key (front ++ xs) → Rising key front
+  rising-start [] xs h = tt
+  rising-start (f ∷ front) xs h = (reach front (h .0), rising-start front xs (h .1))
+    where
+      reach : (ys : List X) → All (λ y. before (key f) (key y) ≡ true) (ys ++ xs) → All (λ y. before (key f) (key y) ≡ true) ys
+      reach [] g = tt
+      reach (y ∷ ys) g = (g .0, reach ys (g .1))
 
 -- where a map keeps keys, it may be done before insertion or after
 pub map-insert : {X Y : Type 0} (key : X → Key) (other : Y → Key) (f : X → Y) → ((x : X) → other (f x) ≡ key x) → (m : X) (xs : List X) → map f (insert key m xs) ≡ insert other (f m) (map f xs)

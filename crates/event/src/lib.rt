@@ -113,6 +113,7 @@ fn place_for(list: &[Message], m: &Message) -> usize
 pub fn insert_by_key(list: &mut Vec<Message>, m: Message) -> Result<(), Message>
     ensures told { λ r. ⌜ r ≡ cond (ltb (vec-len (now (list .entry))) (vec-cap (now (list .entry)))) (Ok tt) (Err m) ⌝ }
     ensures items { λ _. ⌜ vec-items (now (list .exit)) ≡ cond (ltb (vec-len (now (list .entry))) (vec-cap (now (list .entry)))) (insert keyOf m (vec-items (now (list .entry)))) (vec-items (now (list .entry))) ⌝ }
+    ensures len { λ _. ⌜ vec-len (now (list .exit)) ≡ cond (ltb (vec-len (now (list .entry))) (vec-cap (now (list .entry)))) (vec-len (now (list .entry)) + 1) (vec-len (now (list .entry))) ⌝ }
     ensures capacity { λ _. ⌜ vec-cap (now (list .exit)) ≡ vec-cap (now (list .entry)) ⌝ }
     ensures sorted { λ _. ⌜ (Sorted keyOf (vec-items (now (list .entry))) → Sorted keyOf (vec-items (now (list .exit)))) ⌝ }
     ensures shuffled { λ r. ⌜ (isOk r ≡ true → Shuffled (m ∷ vec-items (now (list .entry))) (vec-items (now (list .exit)))) ⌝ }

@@ -1,6 +1,8 @@
 -- What a model means.
 use Prim.Native.Nat.{ℕ, _<_, _≤_}
+use mathlib.Core.Path.{_≡_}
 use mathlib.Core.List.{List, [], _∷_}
+use lib.ListN.{length}
 use Rattle.std.specs.shelf.Lists.{All}
 use Rattle.model.specs.declared.Arrival.{Arrival}
 use Rattle.model.specs.declared.Sent.{Sent}
@@ -34,3 +36,10 @@ pub record Within (n : ℕ) (s : Sent) : Type 0 where
 
 abbrev pub Lawful : ℕ → Sends → Type 0
 Lawful n s = All (Within n) (listed s)
+
+-- what every model shows by law, of its meaning
+pub record Law (M : Meaning) : Type 0 where
+  pub least : 1 ≤ M .places
+  pub most : M .places ≤ 32
+  pub begun : (place : ℕ) → length (M .start place) ≡ 8
+  pub lawful : (place order : ℕ) (words : List ℕ) (a : Arrival) → Lawful (M .places) (M .react place order words a .sends)

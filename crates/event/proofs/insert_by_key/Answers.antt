@@ -21,12 +21,14 @@ returns c =
     let new : List Message = vec-items (c .insert .last .self) in
     let m : Message = c .args .m in
     let room : ltb (vec-len (c .args .list .now)) (vec-cap (c .args .list .now)) ≡ true = lt-ltb _ _ (omega arith) in
+    let done = c .insert .ensures .succeeds (omega arith) in
     let is : new ≡ insert keyOf m old =
-    c .insert .ensures .items ∙ cond-true _ _ _ (c .insert .ensures .succeeds (omega arith))
+    c .insert .ensures .items ∙ cond-true _ _ _ done
     ∙ sym (subst (λ (l : List Message). insert keyOf m l ≡ inserted l (c .place-for-at .result) m) (c .deref .ensures .value) (c .place-for-at .ensures .value)) in
     record {
       told = sym (cond-true _ _ _ room);
       items = is ∙ sym (cond-true _ _ _ room);
+      len = c .insert .ensures .len ∙ cond-true _ _ _ done ∙ sym (cond-true _ _ _ room);
       capacity = c .insert .ensures .in-place (omega arith) .1 .0;
       sorted = λ s. subst (Sorted keyOf) (sym is) (sorted-insert keyOf m old s);
       shuffled = λ _. subst (Shuffled (m ∷ old)) (sym is) (shuffled-insert keyOf m old);

@@ -1,0 +1,15 @@
+// The day run alone, for any model.
+mod fault;
+mod lone;
+mod making;
+mod place;
+mod reading;
+mod running;
+
+pub use fault::DayFault;
+pub use fault::DayFaultFromAllocError;
+pub use lone::LoneDay;
+pub use place::Place;
+pub use place::PlaceDebug;
+pub use place::PlacePartialEq;
+pub use place::Ran;
