@@ -48,9 +48,10 @@ small one x y i k a = grind (arith, tells)
 first : (order w f i : ℕ) (two one : Bool) → eqb order 2 ≡ two → eqb order 1 ≡ one → Foremost (preferred order) w f i
     → (k : ℕ) → Noted w f k → ((driveOf i ≡ driveOf k) × (i ≡ k)) ⊎ (ahead two one (driveOf i) (driveOf k) i k ≡ true)
 first order w f i two one p q h k m =
-    elim (h .first k m)
-    [ inl e ↦ inl (ap driveOf e, e)
-    | inr a ↦ inr (subst (λ b. ahead b one (driveOf i) (driveOf k) i k ≡ true) p (subst (λ b. ahead (eqb order 2) b (driveOf i) (driveOf k) i k ≡ true) q a)) ]
+    elim (h .first k m) [
+      | inl e ↦ inl (ap driveOf e, e)
+      | inr a ↦ inr (subst (λ b. ahead b one (driveOf i) (driveOf k) i k ≡ true) p (subst (λ b. ahead (eqb order 2) b (driveOf i) (driveOf k) i k ≡ true) q a))
+    ]
 
 pub nearest : (order w f : ℕ) → (order ≡ 1 → ⊥) → (order ≡ 2 → ⊥) → Chosen Nearest w f (chosenFarm order w f)
 nearest order w f one two = rightly (preferred order) Nearest w f made (chosenFarm order w f) (chosen order w f)

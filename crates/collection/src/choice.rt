@@ -6,16 +6,14 @@ ghost use Rattle.std.specs.Options.{Cases};
 ghost use Rattle.collection.specs.Choice.{rather, preferred, chosenFarm, freeTanker, Chosen, Nearest, Farthest, Smallest};
 ghost use Rattle.collection.specs.Roads.{driveOf};
 use super::Collection;
+use super::FARTHEST;
+use super::SMALLEST;
 use super::bits::has_bit;
-
-// The orders that do not choose the nearest farm.
-pub const FARTHEST: u32 = 1;
-pub const SMALLEST: u32 = 2;
 
 // The seconds between the dairy and a place: the dairy itself, then farms 1 to 10.
 const DRIVES: [u32; 11] = [0, 600, 900, 900, 1200, 450, 1500, 1500, 750, 1050, 600];
 
-pub fn drive(farm: u8) -> u32
+pub(super) fn drive(farm: u8) -> u32
     requires { ⌜ farm ≤ 10 ⌝ }
     ensures { λ r. ⌜ r ≡ driveOf farm ⌝ }
 {
@@ -27,15 +25,13 @@ fn goes_ahead(order: u32, farm: u8, other: u8) -> bool
     requires { ⌜ farm ≤ 10 ⌝ ∗ ⌜ other ≤ 10 ⌝ }
     ensures { λ r. ⌜ r ≡ preferred order farm other ⌝ }
 {
-    let there = drive(farm);
-    let yonder = drive(other);
-    if order == SMALLEST || there == yonder {
-        return farm < other;
-    }
-    if order == FARTHEST {
-        yonder < there
-    } else {
-        there < yonder
+    let here = drive(farm);
+    let there = drive(other);
+    match order {
+        SMALLEST => farm < other,
+        _ if here == there => farm < other,
+        FARTHEST => here > there,
+        _ => here < there,
     }
 }
 

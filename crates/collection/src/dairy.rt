@@ -6,10 +6,6 @@ ghost use mathlib.Core.Path.{_≡_};
 ghost use Rattle.collection.specs.Bay.{bayEnd, stay};
 ghost use Rattle.collection.specs.Bits.{has};
 ghost use Rattle.collection.specs.Dairy.{allFree, dispatched, unloaded, atDairy};
-use model::Arrival;
-use model::Sends;
-use model::Sent;
-use model::Words;
 use super::Collection;
 use super::EMPTIED;
 use super::FREE;
@@ -18,7 +14,11 @@ use super::READY;
 use super::UNLOAD;
 use super::bits::with_bit;
 use super::bits::without_bit;
-use super::ignore;
+use super::reaction::ignore;
+use model::Arrival;
+use model::Sends;
+use model::Sent;
+use model::Words;
 
 // The bay serves the sender as soon as it has served the one before.
 fn unload(words: &mut Words, arrival: Arrival) -> Sends
@@ -39,7 +39,7 @@ fn unload(words: &mut Words, arrival: Arrival) -> Sends
 
 impl Collection {
     // The word in which every tanker is free.
-    pub fn all_free(&self) -> u32
+    pub(super) fn all_free(&self) -> u32
         ensures value { λ r. ⌜ r ≡ allFree (now (self .entry) .tankers) ⌝ }
         ensures bits { λ r. ⌜ ((k : ℕ) → has r k ≡ (leb 1 k && leb k (now (self .entry) .tankers))) ⌝ }
     {
@@ -71,7 +71,7 @@ impl Collection {
         })
     }
 
-    pub fn at_dairy(&self, order: u32, words: &mut Words, arrival: Arrival) -> Sends
+    pub(super) fn at_dairy(&self, order: u32, words: &mut Words, arrival: Arrival) -> Sends
         ensures words { λ _. ⌜ now (words .exit) ≡ atDairy (now (self .entry) .farms) (now (self .entry) .tankers) order (now (words .entry)) arrival .words ⌝ }
         ensures sends { λ r. ⌜ r ≡ atDairy (now (self .entry) .farms) (now (self .entry) .tankers) order (now (words .entry)) arrival .sends ⌝ }
     {

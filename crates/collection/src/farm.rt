@@ -1,17 +1,17 @@
 // A farm keeps its milk until a tanker pumps it, and announces it to the dairy.
 ghost use mathlib.Core.Path.{_≡_};
 ghost use Rattle.collection.specs.Farm.{announced, filled, pumped, atFarm};
-use model::Arrival;
-use model::Sends;
-use model::Sent;
-use model::Words;
 use super::Collection;
 use super::DAIRY;
 use super::LOADED;
 use super::MILKED;
 use super::PUMP;
 use super::READY;
-use super::ignore;
+use super::reaction::ignore;
+use model::Arrival;
+use model::Sends;
+use model::Sent;
+use model::Words;
 
 // The litres that a tanker holds.
 const TANK: u32 = 20000;
@@ -60,7 +60,7 @@ fn pump(words: &mut Words, tanker: u8) -> Sends
 }
 
 impl Collection {
-    pub fn at_farm(&self, words: &mut Words, arrival: Arrival) -> Sends
+    pub(super) fn at_farm(&self, words: &mut Words, arrival: Arrival) -> Sends
         ensures words { λ _. ⌜ now (words .exit) ≡ atFarm (now (self .entry) .farms) (now (self .entry) .tankers) (now (words .entry)) arrival .words ⌝ }
         ensures sends { λ r. ⌜ r ≡ atFarm (now (self .entry) .farms) (now (self .entry) .tankers) (now (words .entry)) arrival .sends ⌝ }
     {

@@ -1,10 +1,6 @@
 // A tanker goes where the dairy sends it, loads, unloads and is free again.
 ghost use mathlib.Core.Path.{_≡_};
 ghost use Rattle.collection.specs.Tanker.{atTanker};
-use model::Arrival;
-use model::Sends;
-use model::Sent;
-use model::Words;
 use super::Collection;
 use super::DAIRY;
 use super::EMPTIED;
@@ -14,15 +10,21 @@ use super::LOADED;
 use super::PUMP;
 use super::UNLOAD;
 use super::choice::drive;
-use super::ignore;
+use super::reaction::ignore;
+use model::Arrival;
+use model::Sends;
+use model::Sent;
+use model::Words;
 
 // The stages of a trip.
 const IDLE: u32 = 0;
+
 const OUTWARD: u32 = 1;
+
 const HOMEWARD: u32 = 2;
 
 impl Collection {
-    pub fn at_tanker(&self, words: &mut Words, arrival: Arrival) -> Sends
+    pub(super) fn at_tanker(&self, words: &mut Words, arrival: Arrival) -> Sends
         ensures words { λ _. ⌜ now (words .exit) ≡ atTanker (now (self .entry) .farms) (now (words .entry)) arrival .words ⌝ }
         ensures sends { λ r. ⌜ r ≡ atTanker (now (self .entry) .farms) (now (words .entry)) arrival .sends ⌝ }
     {
@@ -38,15 +40,16 @@ impl Collection {
                     data: 0,
                 })
             }
-            (OUTWARD, LOADED) if u32::from(arrival.sender) == words[1] && self.is_farm(words[1]) => {
-                words[0] = HOMEWARD;
-                Sends::One(Sent {
-                    receiver: DAIRY,
-                    delay: drive(arrival.sender),
-                    kind: UNLOAD,
-                    data: arrival.data,
-                })
-            }
+            (OUTWARD, LOADED) if u32::from(arrival.sender) == words[1] && self.is_farm(words[1]) =>
+                {
+                    words[0] = HOMEWARD;
+                    Sends::One(Sent {
+                        receiver: DAIRY,
+                        delay: drive(arrival.sender),
+                        kind: UNLOAD,
+                        data: arrival.data,
+                    })
+                }
             (HOMEWARD, EMPTIED) if arrival.sender == DAIRY => {
                 words[0] = IDLE;
                 Sends::One(Sent {

@@ -24,9 +24,10 @@ loop-farm-again c =
     let ahead = preferred (c .args .order) in
     let i = c .loop-farm .farm in
     let more = pick-more ahead (c .args .waiting) i (omega arith) in
-    elim (c .if-has-bit .came)
-    [ then-has-bit w ↦ w .best-is ∙ w .better-best .ensures ∙ ap (rather ahead i) (c .loop-farm .inv) ∙ sym (more ∙ cond-true _ _ _ (sym (w .if-has-bit .ensures tt)))
-    | else-has-bit w ↦ w .best-is ∙ c .loop-farm .inv ∙ sym (more ∙ cond-false _ _ _ (sym (w .if-has-bit .ensures tt))) ]
+    elim (c .if-has-bit .came) [
+      | then-has-bit w ↦ w .best-is ∙ w .better-best .ensures ∙ ap (rather ahead i) (c .loop-farm .inv) ∙ sym (more ∙ cond-true _ _ _ (sym (w .if-has-bit .ensures tt)))
+      | else-has-bit w ↦ w .best-is ∙ c .loop-farm .inv ∙ sym (more ∙ cond-false _ _ _ (sym (w .if-has-bit .ensures tt)))
+    ]
 
 pub returns : need.returns
 returns c =
