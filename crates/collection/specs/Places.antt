@@ -7,11 +7,14 @@ use lib.Dec.{leb, ltb}
 abbrev pub allowed : ℕ → ℕ → Bool
 allowed f t = (leb 1 f && leb f 10) && (leb 1 t && leb t 6)
 
+-- the dairy's place
 abbrev pub dairy : ℕ
 dairy = 0
 
+-- the place of one of f farms
 abbrev pub isFarm : ℕ → ℕ → Bool
 isFarm f place = leb 1 place && leb place f
 
+-- the place of one of t tankers
 abbrev pub isTanker : ℕ → ℕ → ℕ → Bool
 isTanker f t place = ltb f place && leb place (f + t)

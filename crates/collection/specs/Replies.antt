@@ -1,4 +1,4 @@
--- What a reaction may leave and send.
+-- The words of a place, and what a reaction leaves and sends.
 use Prim.Native.Nat.{ℕ, _+_, _-_, _^_, min}
 use mathlib.Core.List.{List}
 use mathlib.Core.Bool.{cond, _||_}
@@ -10,6 +10,10 @@ use Rattle.model.specs.declared.Sends.the-variants.{Nothing, One}
 use Rattle.model.specs.Meaning.{Reaction}
 use Rattle.collection.specs.Kinds.{milked, loaded, unload}
 
+-- word i of a place
+abbrev pub word : List ℕ → ℕ → ℕ
+word ws i = getD ws i 0
+
 -- a word or an end that would pass 2^32 − 1 stands there
 abbrev pub grown : ℕ → ℕ → ℕ
 grown a b = min (a + b) (2 ^ 32 - 1)
@@ -18,13 +22,15 @@ grown a b = min (a + b) (2 ^ 32 - 1)
 abbrev pub message : ℕ → ℕ → ℕ → ℕ → Sent
 message receiver delay kind litres = record { receiver = receiver; delay = delay; kind = kind; «data» = litres }
 
+-- nothing is sent
 abbrev pub silent : List ℕ → Reaction
 silent ws = record { words = ws; sends = Nothing }
 
+-- one message is sent
 abbrev pub sending : List ℕ → Sent → Reaction
 sending ws s = record { words = ws; sends = One s }
 
--- nothing is sent, and only word 7 changes, by the data if the kind is one that brings milk
+-- any other message is ignored: nothing is sent, and only word 7 changes, by the data if the kind is milked, loaded or unload
 abbrev pub ignored : List ℕ → Arrival → Reaction
 ignored ws a =
-    silent (cond (eqb (a .kind) milked || (eqb (a .kind) loaded || eqb (a .kind) unload)) (set ws 7 (grown (getD ws 7 0) (a .«data»))) ws)
+    silent (cond (eqb (a .kind) milked || (eqb (a .kind) loaded || eqb (a .kind) unload)) (set ws 7 (grown (word ws 7) (a .«data»))) ws)

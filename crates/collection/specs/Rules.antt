@@ -23,5 +23,6 @@ reactOf f t place order ws a =
     (cond (isTanker f t place) (atTanker f ws a)
     (silent ws)))
 
+-- the whole of it
 abbrev pub meaningOf : ℕ → ℕ → Meaning
 meaningOf f t = record { places = 1 + f + t; start = startOf t; react = reactOf f t }

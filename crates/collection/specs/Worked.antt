@@ -12,8 +12,8 @@ use Rattle.collection.specs.Replies.{message}
 use Rattle.collection.specs.Rules.{meaningOf}
 
 -- eight words, of which the first three are given
-abbrev words : ℕ → ℕ → ℕ → List ℕ
-words a b c = a ∷ b ∷ c ∷ 0 ∷ 0 ∷ 0 ∷ 0 ∷ 0 ∷ []
+abbrev eight : ℕ → ℕ → ℕ → List ℕ
+eight a b c = a ∷ b ∷ c ∷ 0 ∷ 0 ∷ 0 ∷ 0 ∷ 0 ∷ []
 
 -- what a place does at this time, by its number, its words and the sender, kind and data of what arrives
 abbrev does : ℕ → List ℕ → ℕ → ℕ → ℕ → ℕ → Reaction
@@ -27,8 +27,8 @@ pub record Worked : Type 0 where
   -- farms 2 and 3 wait: orders 0 and 1 take 2
   pub tie : (chosenFarm 0 (2 ^ 2 + 2 ^ 3) 3 ≡ Some 2) × (chosenFarm 1 (2 ^ 2 + 2 ^ 3) 3 ≡ Some 2)
   -- pumping 25,000 litres loads 20,000 with delay 2,001, leaves 5,000 and announces
-  pub pumping : does 2 (words 25000 1 0) 1203 4 pump 0
-      ≡ record { words = words 5000 1 0; sends = Two (message 4 2001 loaded 20000) (message 0 1 ready 0) }
+  pub pumping : does 2 (eight 25000 1 0) 1203 4 pump 0
+      ≡ record { words = eight 5000 1 0; sends = Two (message 4 2001 loaded 20000) (message 0 1 ready 0) }
   -- unloading 1,000 at 1903 has delay 110, and 207 if the bay ends at 2000
-  pub unloading : does 0 (words 0 0 0) 1903 4 unload 1000 .sends ≡ One (message 4 110 emptied 0)
-  pub later : does 0 (words 0 0 2000) 1903 4 unload 1000 .sends ≡ One (message 4 207 emptied 0)
+  pub unloading : does 0 (eight 0 0 0) 1903 4 unload 1000 .sends ≡ One (message 4 110 emptied 0)
+  pub later : does 0 (eight 0 0 2000) 1903 4 unload 1000 .sends ≡ One (message 4 207 emptied 0)

@@ -1,6 +1,5 @@
 // Which farm is chosen of those that wait, and which tanker of those that are free.
-ghost use Prim.Native.Nat.{ℕ, _≤_};
-ghost use lib.Dec.{ltb};
+ghost use Prim.Native.Nat.{_≤_};
 ghost use mathlib.Core.Path.{_≡_};
 ghost use Rattle.std.specs.Options.{Cases};
 ghost use Rattle.collection.specs.Choice.{rather, preferred, chosenFarm, freeTanker, Chosen, Nearest, Farthest, Smallest};

@@ -1,9 +1,8 @@
 // The dairy sends tankers to waiting farms, and lets them unload at its bay.
-ghost use Prim.Native.Nat.{ℕ, _≤_};
+ghost use Prim.Native.Nat.{ℕ};
 ghost use lib.Dec.{leb};
 ghost use mathlib.Core.Bool.{_&&_};
 ghost use mathlib.Core.Path.{_≡_};
-ghost use Rattle.collection.specs.Bay.{bayEnd, stay};
 ghost use Rattle.collection.specs.Bits.{has};
 ghost use Rattle.collection.specs.Dairy.{allFree, dispatched, unloaded, atDairy};
 use super::Collection;
@@ -20,6 +19,9 @@ use model::Sends;
 use model::Sent;
 use model::Words;
 
+// The longest that a tanker is kept.
+const DAY: u32 = 86_400;
+
 // The bay serves the sender as soon as it has served the one before.
 fn unload(words: &mut Words, arrival: Arrival) -> Sends
     ensures words { λ _. ⌜ now (words .exit) ≡ unloaded (now (words .entry)) arrival .words ⌝ }
@@ -31,7 +33,7 @@ fn unload(words: &mut Words, arrival: Arrival) -> Sends
     words[3] = words[3].saturating_add(arrival.data);
     Sends::One(Sent {
         receiver: arrival.sender,
-        delay: (end - arrival.time).clamp(1, 86400),
+        delay: (end - arrival.time).clamp(1, DAY),
         kind: EMPTIED,
         data: 0,
     })

@@ -14,7 +14,7 @@ use model::Sent;
 use model::Words;
 
 // The litres that a tanker holds.
-const TANK: u32 = 20000;
+const TANK: u32 = 20_000;
 
 fn announce() -> Sent
     ensures { λ r. ⌜ r ≡ announced ⌝ }
