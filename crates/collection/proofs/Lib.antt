@@ -1,0 +1,4 @@
+pub mod Masks
+pub mod Orders
+pub mod Picking
+pub mod Reactions

@@ -1,0 +1,12 @@
+pub mod Bay
+pub mod Bits
+pub mod Choice
+pub mod Dairy
+pub mod Farm
+pub mod Kinds
+pub mod Places
+pub mod Replies
+pub mod Roads
+pub mod Rules
+pub mod Tanker
+pub mod Worked
