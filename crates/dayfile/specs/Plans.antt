@@ -1,13 +1,14 @@
 -- The plan that a day file tells, line by line.
-use Prim.Native.Nat.{ℕ, _+_}
+use Prim.Native.Nat.{ℕ, _+_, _≤_}
 use mathlib.Core.Path.{_≡_}
 use mathlib.Core.List.{List, [], _∷_, _++_}
+use lib.ListN.{length}
 use Rattle.std.specs.declared.option.Option.{Option}
 use Rattle.std.specs.declared.option.Option.the-variants.{Some, None}
 use Rattle.std.specs.declared.result.Result.{Result}
 use Rattle.std.specs.declared.result.Result.the-variants.{Ok, Err}
 use Rattle.std.specs.Of.Vec.{vec-items}
-use Rattle.std.specs.Results.{mapped}
+use Rattle.std.specs.shelf.Lists.{All}
 use Rattle.event.specs.declared.Start.{Start}
 use Rattle.dayfile.specs.declared.flaw.Flaw.{Flaw}
 use Rattle.dayfile.specs.declared.flaw.FlawKind.{FlawKind}
@@ -94,3 +95,14 @@ OutOfMemory (Err f) = Memory f
 abbrev pub answer : Result Plan Flaw → Result Sheet Flaw
 answer (Ok p) = Ok (sheetOf p)
 answer (Err f) = Err f
+
+-- m is told to one of so many farms, as milk
+pub record Farmed (farms : ℕ) (m : Start) : Type 0 where
+  pub least : 1 ≤ m .receiver
+  pub most : m .receiver ≤ farms
+  pub kind : m .kind ≡ 0
+
+-- every start of a plan is milk at one of its farms, and has its line
+pub record Sound (s : Sheet) : Type 0 where
+  pub farmed : All (Farmed (s .farms)) (s .starts)
+  pub lined : length (s .lines) ≡ length (s .starts)

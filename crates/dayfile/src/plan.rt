@@ -6,7 +6,7 @@ ghost use Rattle.std.specs.Of.Vec.{vec-items};
 ghost use Rattle.std.specs.Results.{Cases};
 ghost use Rattle.std.specs.Vec.{made};
 ghost use Rattle.std.specs.declared.result.Result.the-variants.{Ok, Err};
-ghost use Rattle.dayfile.specs.Plans.{toldBy, sheetOf, noted, nothingTold, step, finished, readText, answer, Memory, OutOfMemory};
+ghost use Rattle.dayfile.specs.Plans.{toldBy, sheetOf, noted, nothingTold, step, finished, readText, answer, Memory, OutOfMemory, Sound};
 use crate::flaw::Flaw;
 use crate::flaw::FlawKind;
 use crate::line::Entry;
@@ -121,7 +121,8 @@ impl Draft {
 
 // The plan that a day file tells, or its first flaw.
 pub fn read(heap: Global, text: &[u8]) -> Result<Plan, Flaw>
-    ensures { λ r. ⌜ OutOfMemory r ⊎ (answer r ≡ readText (now (text .entry))) ⌝ }
+    ensures value { λ r. ⌜ OutOfMemory r ⊎ (answer r ≡ readText (now (text .entry))) ⌝ }
+    ensures sound { λ r. ⌜ made r (λ p. Sound (sheetOf p)) ⌝ }
 {
     let mut draft = Draft::new(heap);
     let mut rest = text;
