@@ -53,7 +53,7 @@ impl FlawKind {
     }
 }
 
-impl fmt::Display for Flaw as FlawDisplay {
+pub impl fmt::Display for Flaw as FlawDisplay {
     ghost shown = { λ f. Some (spelt f) };
 
     fn fmt<W: fmt::Write>(&self, f: &mut fmt::Formatter<W>) -> fmt::Result {
