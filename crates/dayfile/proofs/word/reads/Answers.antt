@@ -1,0 +1,7 @@
+-- Two slices are equal where they have the same bytes.
+use Rattle.std.proofs.shelf.Equals.{matches-decides, sameBytes-decides}
+use Rattle.std.proofs.shelf.Ways.{same-from-decides}
+use Rattle.dayfile.proofs.word.reads.Needs as need
+
+pub returns : need.returns
+returns c = same-from-decides _ _ (matches-decides _ _ _ (c .eq .ensures)) (sameBytes-decides (c .args .word .now) (c .args .other .now))

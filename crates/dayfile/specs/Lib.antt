@@ -1,0 +1,5 @@
+pub mod Text
+pub mod Words
+pub mod Lines
+pub mod Plans
+pub mod Flaws
