@@ -27,6 +27,13 @@ impl<M: Model> LoneDay<M> {
         }
     }
 
+    // What has run, oldest first.
+    pub fn journal(&self) -> &[Message]
+        ensures { λ r. ⌜ now r ≡ dayOf (meaning (now (self .entry) .model)) (now (self .entry)) .journal ⌝ }
+    {
+        self.journal.as_slice()
+    }
+
     // Words, order and send count of a place.
     pub fn place(&self, p: u8) -> Result<Place, DayFault>
         ensures { λ r. ⌜ r ≡ placeAnswer (meaning (now (self .entry) .model)) (dayOf (meaning (now (self .entry) .model)) (now (self .entry))) p ⌝ }
