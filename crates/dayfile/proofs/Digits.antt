@@ -13,7 +13,7 @@ use Rattle.std.proofs.shelf.Tests.{and-left, and-right, and-from}
 use Rattle.dayfile.specs.Text.{some}
 use Rattle.dayfile.specs.Words.{isNumber, valueOf}
 
-some-so : (word : List ℕ) → 0 < length word → some word ≡ true
+pub some-so : (word : List ℕ) → 0 < length word → some word ≡ true
 some-so [] h = absurd (omega arith)
 some-so (c ∷ cs) h = refl
 

@@ -29,7 +29,7 @@ use Rattle.dayfile.specs.declared.word.Keyword.the-variants as key
 use Rattle.dayfile.specs.Text.{linesOf, said, wordsOf}
 use Rattle.dayfile.specs.Words.{keywordOf, isNumber, valueOf, numberOf}
 use Rattle.dayfile.specs.Lines.{then, next, onlyNumber, once, momentOf, milkingOf, milkedBy, farmsSet, tankersSet, endSet, entryBy, entryUnder, entryOf}
-use Rattle.dayfile.specs.Plans.{Told, Sheet, sheetOf, nothingTold, noted, atLine, step, needed, finished, readOn, readText, answer, Farmed, Sound}
+use Rattle.dayfile.specs.Plans.{Told, Sheet, sheetOf, nothingTold, noted, atLine, step, needed, finished, readOn, readText, answer, OutOfMemory, Farmed, Sound}
 
 -- what holds of a value that is read on holds at the end
 made-then : {X Y E : Type 0} (P : X → Type 0) (Q : Y → Type 0) (r : Result X E) (more : X → Result Y E) → made r P → ((x : X) → P x → made (more x) Q) → made (then r more) Q
@@ -142,6 +142,7 @@ made-readOn n t [] k = made-finished n t k
 made-readOn n t (l ∷ ls) k = made-then Kept Sound (step n t l) (λ t. readOn (n + 1) t ls) (made-step n t l k) (λ t k. made-readOn (n + 1) t ls k)
 
 -- the plan of a text
-pub sound-answer : (text : List ℕ) (r : Result Plan Flaw) → answer r ≡ readText text → made r (λ p. Sound (sheetOf p))
-sound-answer text (Ok p) e = subst (λ (r : Result Sheet Flaw). made r Sound) (sym e) (made-readOn 1 nothingTold (linesOf text) (record { held = refl; lined = refl }))
-sound-answer text (Err f) e = tt
+pub sound-answer : (text : List ℕ) (r : Result Plan Flaw) → OutOfMemory r ⊎ (answer r ≡ readText text) → made r (λ p. Sound (sheetOf p))
+sound-answer text (Ok p) (inl m) = absurd m
+sound-answer text (Ok p) (inr e) = subst (λ (r : Result Sheet Flaw). made r Sound) (sym e) (made-readOn 1 nothingTold (linesOf text) (record { held = refl; lined = refl }))
+sound-answer text (Err f) h = tt

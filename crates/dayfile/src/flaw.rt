@@ -1,7 +1,8 @@
 // What is wrong with a day file, and on which line.
 ghost use mathlib.Core.Path.{_≡_};
 ghost use Rattle.std.specs.declared.option.Option.the-variants.{Some};
-ghost use Rattle.dayfile.specs.Flaws.{toldAs, spelt};
+ghost use Rattle.dayfile.specs.Flaws.{wording, message};
+use std::error::Error;
 use std::fmt;
 
 #[derive(Clone, Copy, PartialEq, Eq, Debug)]
@@ -34,7 +35,7 @@ pub struct Flaw {
 impl FlawKind {
     // What is wrong, in plain words.
     pub fn words(self) -> &'static str
-        ensures { λ r. ⌜ now r ≡ toldAs self ⌝ }
+        ensures { λ r. ⌜ now r ≡ wording self ⌝ }
     {
         match self {
             FlawKind::UnknownWord => "the first word is none of farms, tankers, end and milked",
@@ -54,7 +55,7 @@ impl FlawKind {
 }
 
 pub impl fmt::Display for Flaw as FlawDisplay {
-    ghost shown = { λ f. Some (spelt f) };
+    ghost shown = { λ f. Some (message f) };
 
     fn fmt<W: fmt::Write>(&self, f: &mut fmt::Formatter<W>) -> fmt::Result {
         let line = self.line;
@@ -62,3 +63,5 @@ pub impl fmt::Display for Flaw as FlawDisplay {
         write!(f, "line {line}: {words}")
     }
 }
+
+pub impl Error for Flaw as FlawError {}

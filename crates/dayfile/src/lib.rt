@@ -8,6 +8,7 @@ mod word;
 pub use flaw::Flaw;
 pub use flaw::FlawDebug;
 pub use flaw::FlawDisplay;
+pub use flaw::FlawError;
 pub use flaw::FlawKind;
 pub use flaw::FlawKindDebug;
 pub use flaw::FlawKindPartialEq;

@@ -20,14 +20,14 @@ const MILKED: u8 = 0;
 
 // What the lines so far have set.
 #[derive(Clone, Copy)]
-pub struct Settings {
+pub(crate) struct Settings {
     pub farms: Option<u8>,
     pub tankers: Option<u8>,
     pub end: Option<u32>,
 }
 
 #[derive(Clone, Copy)]
-pub enum Entry {
+pub(crate) enum Entry {
     Nothing,
     Set(Settings),
     Milked(Start),
@@ -147,7 +147,7 @@ impl Settings {
     }
 
     // What a line says where the lines before it have set this much.
-    pub fn entry(self, line: &[u8]) -> Result<Entry, FlawKind>
+    pub(crate) fn entry(self, line: &[u8]) -> Result<Entry, FlawKind>
         ensures { λ r. ⌜ r ≡ entryOf self (wordsOf (said (now (line .entry)))) ⌝ }
     {
         let (said, _) = cut(line, Mark::Hash);

@@ -6,7 +6,8 @@ ghost use Rattle.std.specs.Of.Vec.{vec-items};
 ghost use Rattle.std.specs.Results.{Cases};
 ghost use Rattle.std.specs.Vec.{made};
 ghost use Rattle.std.specs.declared.result.Result.the-variants.{Ok, Err};
-ghost use Rattle.dayfile.specs.Plans.{toldBy, sheetOf, noted, nothingTold, step, finished, readText, answer, Memory, OutOfMemory, Sound};
+ghost use Rattle.dayfile.specs.Plans.{Sheet, toldBy, sheetOf, noted, nothingTold, step, finished, readText, answer, Memory, OutOfMemory, Sound};
+ghost use Rattle.dayfile.specs.Written.{Writable, written};
 use crate::flaw::Flaw;
 use crate::flaw::FlawKind;
 use crate::line::Entry;
@@ -123,6 +124,7 @@ impl Draft {
 pub fn read(heap: Global, text: &[u8]) -> Result<Plan, Flaw>
     ensures value { λ r. ⌜ OutOfMemory r ⊎ (answer r ≡ readText (now (text .entry))) ⌝ }
     ensures sound { λ r. ⌜ made r (λ p. Sound (sheetOf p)) ⌝ }
+    ensures back { λ r. ⌜ ((s : Sheet) → Writable s → now (text .entry) ≡ written s → OutOfMemory r ⊎ (answer r ≡ Ok s)) ⌝ }
 {
     let mut draft = Draft::new(heap);
     let mut rest = text;

@@ -8,7 +8,7 @@ ghost use Rattle.dayfile.specs.Text.{blank, marks, before, onward, linesOf, wo
 
 // A kind of byte at which a text is cut.
 #[derive(Clone, Copy)]
-pub enum Mark {
+pub(crate) enum Mark {
     Newline,
     Hash,
     Blank,
@@ -36,7 +36,7 @@ fn is_blank(byte: u8) -> bool
 }
 
 // What stands before the first such byte, and what begins with it.
-pub fn cut(text: &[u8], mark: Mark) -> (&[u8], &[u8])
+pub(crate) fn cut(text: &[u8], mark: Mark) -> (&[u8], &[u8])
     ensures front { λ r. ⌜ now (r .0) ≡ before (marks mark) (now (text .entry)) ⌝ }
     ensures back { λ r. ⌜ now (r .1) ≡ onward (marks mark) (now (text .entry)) ⌝ }
 {
@@ -49,7 +49,7 @@ pub fn cut(text: &[u8], mark: Mark) -> (&[u8], &[u8])
 }
 
 // The first line, and the text after it.
-pub fn first_line(text: &[u8]) -> (&[u8], &[u8])
+pub(crate) fn first_line(text: &[u8]) -> (&[u8], &[u8])
     ensures lines { λ r. ⌜ (0 < length (now (text .entry)) → linesOf (now (text .entry)) ≡ now (r .0) ∷ linesOf (now (r .1))) ⌝ }
     ensures shorter { λ r. ⌜ (0 < length (now (text .entry)) → length (now (r .1)) < length (now (text .entry))) ⌝ }
 {
@@ -62,7 +62,7 @@ pub fn first_line(text: &[u8]) -> (&[u8], &[u8])
 }
 
 // The first word, if there is one, and what stands after it.
-pub fn first_word(line: &[u8]) -> Option<(&[u8], &[u8])>
+pub(crate) fn first_word(line: &[u8]) -> Option<(&[u8], &[u8])>
     ensures { λ r. ⌜ Cases r (wordsOf (now (line .entry)) ≡ []) (λ p. wordsOf (now (line .entry)) ≡ now (p .0) ∷ wordsOf (now (p .1))) ⌝ }
 {
     let (_, from) = cut(line, Mark::Graphic);

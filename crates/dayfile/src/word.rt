@@ -10,7 +10,7 @@ use crate::flaw::FlawKind;
 
 // The word that begins a line.
 #[derive(Clone, Copy)]
-pub enum Keyword {
+pub(crate) enum Keyword {
     Farms,
     Tankers,
     End,
@@ -18,7 +18,7 @@ pub enum Keyword {
 }
 
 impl Keyword {
-    pub fn of(word: &[u8]) -> Option<Keyword>
+    pub(crate) fn of(word: &[u8]) -> Option<Keyword>
         ensures { λ r. ⌜ r ≡ keywordOf (now (word .entry)) ⌝ }
     {
         if reads(word, b"farms") {
@@ -36,7 +36,7 @@ impl Keyword {
 }
 
 // Whether the word is this one.
-pub fn reads(word: &[u8], other: &[u8]) -> bool
+pub(crate) fn reads(word: &[u8], other: &[u8]) -> bool
     ensures { λ r. ⌜ r ≡ sameBytes (now (word .entry)) (now (other .entry)) ⌝ }
 {
     word == other
@@ -63,7 +63,7 @@ fn value(word: &[u8]) -> Option<u64>
 }
 
 // The number from `low` to `high` that a word writes.
-pub fn number(word: &[u8], low: u32, high: u32) -> Result<u32, FlawKind>
+pub(crate) fn number(word: &[u8], low: u32, high: u32) -> Result<u32, FlawKind>
     ensures value { λ r. ⌜ r ≡ numberOf low high (now (word .entry)) ⌝ }
     ensures within { λ r. ⌜ made r (λ n. n ≤ high) ⌝ }
 {
