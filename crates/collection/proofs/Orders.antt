@@ -1,15 +1,16 @@
 -- What an order chooses: the nearest farm, the farthest or the smallest-numbered.
 use Prim.Native.Nat.{ℕ, _≤_, _<_}
-use mathlib.Core.Path.{_≡_, refl, sym, ap, subst, _∙_}
+use mathlib.Core.Path.{_≡_, refl, ap, subst}
 use mathlib.Core.Bool.{Bool, true, false, cond, _||_}
 use mathlib.Core.Logic.{_⊎_, inl, inr}
 use native.Mathlib.Omega.{arith}
 use lib.Dec.{eqb, ltb}
+use Rattle.std.specs.Options.{Cases}
 use Rattle.std.proofs.shelf.Tests.{eq-eqb, ne-eqb}
 use Rattle.std.proofs.shelf.Ways.{tells}
 use Rattle.collection.specs.Choice.{preferred, chosenFarm, Noted, Nearest, Farthest, Smallest, Chosen}
 use Rattle.collection.specs.Roads.{driveOf}
-use Rattle.collection.proofs.Picking.{Lines-up, Foremost, foremost, rightly}
+use Rattle.collection.proofs.Picking.{Lines-up, Foremost, foremost, within, rightly}
 
 -- farm i, with drive x, goes ahead of farm k, with drive y, under order 2, under order 1 or under another
 abbrev ahead : Bool → Bool → ℕ → ℕ → ℕ → ℕ → Bool
@@ -31,8 +32,11 @@ by-order order = record {
   total = λ i k. total (eqb order 2) (eqb order 1) (driveOf i) (driveOf k) i k;
 }
 
-pub chosen : (order w f : ℕ) → Chosen (Foremost (preferred order)) w f (chosenFarm order w f)
+chosen : (order w f : ℕ) → Chosen (Foremost (preferred order)) w f (chosenFarm order w f)
 chosen order w f = foremost (preferred order) (by-order order) w f
+
+pub chosen-within : (order w n m : ℕ) → n ≤ m → Cases (chosenFarm order w n) (Unit {0}) (λ k. k ≤ m)
+chosen-within order w n m h = within (preferred order) w n m h (chosenFarm order w n) (chosen order w n)
 
 -- what it is to be the same farm, or to go ahead under each order
 near : (x y i k : ℕ) → ((x ≡ y) × (i ≡ k)) ⊎ (ahead false false x y i k ≡ true) → (x ≤ y) × (x ≡ y → i ≤ k)

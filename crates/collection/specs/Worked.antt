@@ -3,7 +3,6 @@ use Prim.Native.Nat.{ℕ, _+_, _^_}
 use mathlib.Core.Path.{_≡_}
 use mathlib.Core.List.{List, [], _∷_}
 use Rattle.std.specs.declared.option.Option.the-variants.{Some}
-use Rattle.model.specs.declared.Arrival.{Arrival}
 use Rattle.model.specs.declared.Sends.the-variants.{One, Two}
 use Rattle.model.specs.Meaning.{Reaction}
 use Rattle.collection.specs.Choice.{chosenFarm}

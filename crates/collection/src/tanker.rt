@@ -19,9 +19,9 @@ use model::Words;
 // The stages of a trip.
 const IDLE: u32 = 0;
 
-const OUTWARD: u32 = 1;
+const OUT: u32 = 1;
 
-const HOMEWARD: u32 = 2;
+const BACK: u32 = 2;
 
 impl Collection {
     pub(super) fn at_tanker(&self, words: &mut Words, arrival: Arrival) -> Sends
@@ -31,7 +31,7 @@ impl Collection {
         match (words[0], arrival.kind) {
             (IDLE, GO) if arrival.sender == DAIRY && self.is_farm(arrival.data) => {
                 let farm = arrival.data as u8;
-                words[0] = OUTWARD;
+                words[0] = OUT;
                 words[1] = arrival.data;
                 Sends::One(Sent {
                     receiver: farm,
@@ -40,17 +40,16 @@ impl Collection {
                     data: 0,
                 })
             }
-            (OUTWARD, LOADED) if u32::from(arrival.sender) == words[1] && self.is_farm(words[1]) =>
-                {
-                    words[0] = HOMEWARD;
-                    Sends::One(Sent {
-                        receiver: DAIRY,
-                        delay: drive(arrival.sender),
-                        kind: UNLOAD,
-                        data: arrival.data,
-                    })
-                }
-            (HOMEWARD, EMPTIED) if arrival.sender == DAIRY => {
+            (OUT, LOADED) if u32::from(arrival.sender) == words[1] && self.is_farm(words[1]) => {
+                words[0] = BACK;
+                Sends::One(Sent {
+                    receiver: DAIRY,
+                    delay: drive(arrival.sender),
+                    kind: UNLOAD,
+                    data: arrival.data,
+                })
+            }
+            (BACK, EMPTIED) if arrival.sender == DAIRY => {
                 words[0] = IDLE;
                 Sends::One(Sent {
                     receiver: DAIRY,

@@ -1,6 +1,6 @@
 -- Each turn adds one tanker's bit.
 use mathlib.Core.Path.{_≡_, sym, ap, _∙_}
-use Prim.Native.Nat.{ℕ, _-_}
+use Prim.Native.Nat.{_-_}
 use native.Mathlib.Omega.{arith}
 use Rattle.collection.specs.Bits.{has, with}
 use Rattle.collection.specs.Dairy.{allFree}

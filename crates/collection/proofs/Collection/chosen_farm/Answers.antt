@@ -1,23 +1,19 @@
 -- Each turn is one farm further, and the last choice is the order's.
 use mathlib.Core.Path.{_≡_, sym, ap, subst, _∙_}
-use Prim.Native.Nat.{ℕ, _-_, _≤_}
+use Prim.Native.Nat.{_-_, _≤_}
 use native.Mathlib.Omega.{arith}
-use Rattle.std.specs.declared.option.Option.{Option}
 use Rattle.std.specs.Options.{Cases}
 use Rattle.std.proofs.shelf.Tests.{cond-true, cond-false}
 use Rattle.collection.specs.Choice.{Farthest, Smallest, Nearest, Chosen, chosenFarm, preferred, rather}
-use Rattle.collection.proofs.Orders.{chosen, farthest, smallest, nearest}
-use Rattle.collection.proofs.Picking.{pick-more, within}
+use Rattle.collection.proofs.Orders.{chosen-within, farthest, smallest, nearest}
+use Rattle.collection.proofs.Picking.{pick-more}
 use Rattle.collection.proofs.Collection.chosen_farm.Needs as need
 use Rattle.collection.proofs.Collection.chosen_farm.Needs.{then-has-bit, else-has-bit}
 
 pub better-best-requires : need.better-best-requires
 better-best-requires c κs =
-    let order = c .args .order in
-    let w = c .args .waiting in
-    let n = c .loop-farm .farm - 1 in
-    let high : n ≤ 10 = omega arith in
-    (omega arith, subst (λ r. Cases r (Unit {0}) (λ k. k ≤ 10)) (sym (c .loop-farm .inv)) (within (preferred order) w n 10 high (chosenFarm order w n) (chosen order w n)))
+    let high : c .loop-farm .farm - 1 ≤ 10 = omega arith in
+    (omega arith, subst (λ r. Cases r (Unit {0}) (λ k. k ≤ 10)) (sym (c .loop-farm .inv)) (chosen-within (c .args .order) (c .args .waiting) (c .loop-farm .farm - 1) 10 high))
 
 pub loop-farm-again : need.loop-farm-again
 loop-farm-again c =

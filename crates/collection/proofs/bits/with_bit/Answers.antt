@@ -1,6 +1,6 @@
 -- The mask has one bit.
 use mathlib.Core.Path.{_≡_, ap, _∙_}
-use Prim.Native.Nat.{ℕ, _*_, _%_, _^_}
+use Prim.Native.Nat.{_*_, _%_, _^_}
 use lib.Bits.{bitOr}
 use Rattle.std.proofs.shelf.Bits.{one-shl}
 use Rattle.collection.specs.Bits.{has, with}

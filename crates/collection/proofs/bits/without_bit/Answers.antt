@@ -1,7 +1,7 @@
 -- The mask lacks one bit.
 use mathlib.Core.Path.{_≡_, ap, _∙_}
 use native.Mathlib.Omega.{arith}
-use Prim.Native.Nat.{ℕ, _-_, _*_, _%_, _^_}
+use Prim.Native.Nat.{_-_, _*_, _%_, _^_}
 use lib.Bits.{bitAnd}
 use Rattle.std.proofs.shelf.Bits.{one-shl}
 use Rattle.collection.specs.Bits.{has, without}
