@@ -55,6 +55,6 @@ pub impl From<AllocError> for DayFault as DayFaultFromAllocError {
     ghost converts = { λ _ r. r ≡ Memory };
 
     fn from(_e: AllocError) -> DayFault {
-        DayFault::Memory
+        Self::Memory
     }
 }

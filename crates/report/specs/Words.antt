@@ -62,7 +62,7 @@ factWords (Lost n) = codes "messages lost after the end: " ++ decimal n
 
 -- the day at a glance
 abbrev pub headingWords : ℕ → ℕ → ℕ → List ℕ
-headingWords f t end = codes "a day of " ++ (decimal f ++ (codes " farms and " ++ (decimal t ++ (codes " tankers, until " ++ momentWords end))))
+headingWords f t end = codes "farms: " ++ (decimal f ++ (codes ", tankers: " ++ (decimal t ++ (codes ", end of day: " ++ momentWords end))))
 
 -- why a day is refused
 abbrev pub faultWords : DayFault → List ℕ

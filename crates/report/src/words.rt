@@ -170,7 +170,7 @@ pub impl fmt::Display for Heading as HeadingDisplay {
         let end = Moment(self.end);
         write!(
             f,
-            "a day of {farms} farms and {tankers} tankers, until {end}"
+            "farms: {farms}, tankers: {tankers}, end of day: {end}"
         )
     }
 }
