@@ -7,6 +7,7 @@ use day::DayFault;
 use day::LoneDay;
 use dayfile::FlawError;
 use dayfile::Plan;
+use model::ModelFault;
 use report::Deed;
 use report::FactDisplay;
 use report::Heading;
@@ -56,6 +57,18 @@ fn refused(heap: Global, plan: &Plan, fault: DayFault) -> AnyError {
     }
 }
 
+// Why there is no model.
+fn unmade(heap: Global, fault: ModelFault) -> AnyError {
+    let number = fault.refusal().number;
+    match format!(
+        heap,
+        "refused {number}: there are 1 to 10 farms and 1 to 6 tankers"
+    ) {
+        Ok(text) => text.into(),
+        Err(e) => e.into(),
+    }
+}
+
 // Runs the day to its last event, a line for each.
 fn run_day(rt: &LibcRuntime, plan: &Plan, day: &mut LoneDay<Collection>) -> Result<(), AnyError> {
     for _ in 0..TURNS {
@@ -78,8 +91,9 @@ fn run_day(rt: &LibcRuntime, plan: &Plan, day: &mut LoneDay<Collection>) -> Resu
 // Prints the day of a plan.
 fn print_day(rt: &LibcRuntime, plan: &Plan) -> Result<(), AnyError> {
     let heap = rt.alloc();
-    let Ok(model) = Collection::new(plan.farms, plan.tankers) else {
-        return Err("refused 1: there are 1 to 10 farms and 1 to 6 tankers".into());
+    let model = match Collection::new(plan.farms, plan.tankers) {
+        Ok(model) => model,
+        Err(fault) => return Err(unmade(heap, fault)),
     };
     let mut day = match LoneDay::load(heap, model, CAPACITY, plan.starts.as_slice(), plan.end) {
         Ok(day) => day,
@@ -104,11 +118,18 @@ fn run(rt: &LibcRuntime) -> Result<(), AnyError> {
     let Some(path) = args.nth(1) else {
         return Err("usage: dispatch FILE".into());
     };
-    let text = fs::read(rt, path.as_str())?;
+    let text = match fs::read(rt, path.as_str()) {
+        Ok(text) => text,
+        Err(e) => return Err(format!(rt.alloc(), "{path}: {e}")?.into()),
+    };
     let plan = dayfile::read(rt.alloc(), text.as_slice())?;
     print_day(rt, &plan)
 }
 
 fn main(rt: LibcRuntime) -> Result<(), AnyError> {
-    rt.report(run(&rt))
+    let done = run(&rt);
+    if let Err(error) = &done {
+        eprintln!(rt, "dispatch: {error}")?;
+    }
+    done
 }

@@ -168,10 +168,7 @@ pub impl fmt::Display for Heading as HeadingDisplay {
         let farms = self.farms;
         let tankers = self.tankers;
         let end = Moment(self.end);
-        write!(
-            f,
-            "farms: {farms}, tankers: {tankers}, end of day: {end}"
-        )
+        write!(f, "farms: {farms}, tankers: {tankers}, end of day: {end}")
     }
 }
 
