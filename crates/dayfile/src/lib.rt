@@ -1,4 +1,12 @@
-// Reads a day file, a text for people, into the plan of a collection day.
+// Reads a day file, a text for people, into the plan of a collection day:
+//
+//     # Tuesday
+//     farms 3
+//     tankers 1
+//     end 3000
+//     milked 2 1000 at 0        # farm, litres, second of the day
+//
+// specs/Plans.antt has the whole format. Limits of the model and of the day are theirs to refuse.
 mod flaw;
 mod line;
 mod plan;

@@ -1,11 +1,11 @@
 // What a line says: nothing, a setting of the day, or a milking.
-ghost use Prim.Native.Nat.{ℕ, _≤_};
-ghost use mathlib.Core.List.{List};
+ghost use Prim.Native.Nat.{_≤_};
 ghost use mathlib.Core.Path.{_≡_};
 ghost use Rattle.std.specs.Vec.{made};
 ghost use Rattle.dayfile.specs.Text.{said, wordsOf};
 ghost use Rattle.dayfile.specs.Words.{numberOf};
-ghost use Rattle.dayfile.specs.Lines.{next, behind, paired, onlyNumber, momentOf, milkingOf, farmsSet, tankersSet, endSet, entryBy, entryOf};
+ghost use Rattle.dayfile.specs.Held.{behind};
+ghost use Rattle.dayfile.specs.Lines.{next, paired, onlyNumber, momentOf, milkingOf, farmsSet, tankersSet, endSet, entryBy, entryOf};
 use crate::flaw::FlawKind;
 use crate::text::Mark;
 use crate::text::cut;

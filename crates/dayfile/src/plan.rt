@@ -1,12 +1,12 @@
 // The plan of a day, as its file tells it line by line.
-ghost use Prim.Native.Nat.{ℕ, _+_, _<_, _≤_};
 ghost use mathlib.Core.Logic.{_⊎_};
 ghost use mathlib.Core.Path.{_≡_};
-ghost use Rattle.std.specs.Of.Vec.{vec-items};
 ghost use Rattle.std.specs.Results.{Cases};
 ghost use Rattle.std.specs.Vec.{made};
 ghost use Rattle.std.specs.declared.result.Result.the-variants.{Ok, Err};
-ghost use Rattle.dayfile.specs.Plans.{Sheet, toldBy, sheetOf, noted, nothingTold, step, finished, readText, answer, Memory, OutOfMemory, Sound};
+ghost use Rattle.dayfile.specs.Held.{toldBy, sheetOf, answer, Memory, OutOfMemory};
+ghost use Rattle.dayfile.specs.Laws.{Sound};
+ghost use Rattle.dayfile.specs.Plans.{Sheet, noted, nothingTold, step, finished, readText};
 ghost use Rattle.dayfile.specs.Written.{Writable, written};
 use crate::flaw::Flaw;
 use crate::flaw::FlawKind;
@@ -120,7 +120,8 @@ impl Draft {
     }
 }
 
-// The plan that a day file tells, or its first flaw.
+// The plan that a day file tells, or its first flaw; in place of either, want of memory.
+// A text that a plan is written out as is read as that plan.
 pub fn read(heap: Global, text: &[u8]) -> Result<Plan, Flaw>
     ensures value { λ r. ⌜ OutOfMemory r ⊎ (answer r ≡ readText (now (text .entry))) ⌝ }
     ensures sound { λ r. ⌜ made r (λ p. Sound (sheetOf p)) ⌝ }
