@@ -83,6 +83,7 @@ mod tests {
             ("farms +3", 1, FlawKind::NotANumber),
             ("farms 256", 1, FlawKind::OutOfRange),
             ("end 4294967296", 1, FlawKind::OutOfRange),
+            ("end 100000000000000000000", 1, FlawKind::OutOfRange),
             ("farms 3\n#\nfarms 3", 3, FlawKind::GivenTwice),
             ("milked 1 5 at 0\nfarms 3", 1, FlawKind::MilkedBeforeFarms),
             ("farms 3\nmilked 0 5 at 0", 2, FlawKind::OutOfRange),

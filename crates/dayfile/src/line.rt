@@ -26,9 +26,11 @@ pub(crate) struct Settings {
     pub end: Option<u32>,
 }
 
+// What one line says.
 #[derive(Clone, Copy)]
 pub(crate) enum Entry {
     Nothing,
+    // with what it sets
     Set(Settings),
     Milked(Start),
 }
@@ -70,7 +72,7 @@ fn moment(line: &[u8]) -> Result<u32, FlawKind>
     only_number(rest, u32::MAX)
 }
 
-// A farm of the file, litres, and the moment.
+// A farm of the file, litres, and the moment of the milking.
 fn milking(line: &[u8], farms: u8) -> Result<Start, FlawKind>
     ensures { λ r. ⌜ r ≡ milkingOf farms (wordsOf (now (line .entry))) ⌝ }
 {
@@ -150,8 +152,8 @@ impl Settings {
     pub(crate) fn entry(self, line: &[u8]) -> Result<Entry, FlawKind>
         ensures { λ r. ⌜ r ≡ entryOf self (wordsOf (said (now (line .entry)))) ⌝ }
     {
-        let (said, _) = cut(line, Mark::Hash);
-        let Some((word, rest)) = first_word(said) else {
+        let (front, _) = cut(line, Mark::Hash);
+        let Some((word, rest)) = first_word(front) else {
             return Ok(Entry::Nothing);
         };
         match Keyword::of(word) {

@@ -66,20 +66,17 @@ impl Draft {
         Ok(())
     }
 
-    // Takes line `n`.
+    // Takes line `n`, or tells its flaw.
     fn take(&mut self, n: usize, line: &[u8]) -> Result<(), Flaw>
         ensures { λ r. ⌜ Cases r (λ _. step n (toldBy (now (self .entry))) (now (line .entry)) ≡ Ok (toldBy (now (self .exit)))) (λ f. Memory f ⊎ (step n (toldBy (now (self .entry))) (now (line .entry)) ≡ Err f)) ⌝ }
     {
         let entry = match self.settings.entry(line) {
             Ok(entry) => entry,
-            Err(kind) => return Err(Flaw { line: n, kind }),
+            Err(kind) => return Err(kind.at(n)),
         };
         match self.note(n, entry) {
             Ok(()) => Ok(()),
-            Err(_) => Err(Flaw {
-                line: n,
-                kind: FlawKind::NoMemory,
-            }),
+            Err(_) => Err(FlawKind::NoMemory.at(n)),
         }
     }
 
@@ -92,24 +89,9 @@ impl Draft {
             starts,
             lines,
         } = self;
-        let Some(farms) = settings.farms else {
-            return Err(Flaw {
-                line: n,
-                kind: FlawKind::FarmsMissing,
-            });
-        };
-        let Some(tankers) = settings.tankers else {
-            return Err(Flaw {
-                line: n,
-                kind: FlawKind::TankersMissing,
-            });
-        };
-        let Some(end) = settings.end else {
-            return Err(Flaw {
-                line: n,
-                kind: FlawKind::EndMissing,
-            });
-        };
+        let farms = settings.farms.ok_or(FlawKind::FarmsMissing.at(n))?;
+        let tankers = settings.tankers.ok_or(FlawKind::TankersMissing.at(n))?;
+        let end = settings.end.ok_or(FlawKind::EndMissing.at(n))?;
         Ok(Plan {
             farms,
             tankers,
@@ -121,7 +103,7 @@ impl Draft {
 }
 
 // The plan that a day file tells, or its first flaw; in place of either, want of memory.
-// A text that a plan is written out as is read as that plan.
+// A plan that is written out as a text is read back from it.
 pub fn read(heap: Global, text: &[u8]) -> Result<Plan, Flaw>
     ensures value { λ r. ⌜ OutOfMemory r ⊎ (answer r ≡ readText (now (text .entry))) ⌝ }
     ensures sound { λ r. ⌜ made r (λ p. Sound (sheetOf p)) ⌝ }

@@ -18,6 +18,7 @@ pub(crate) enum Keyword {
 }
 
 impl Keyword {
+    // The keyword that a word is, if it is one.
     pub(crate) fn of(word: &[u8]) -> Option<Keyword>
         ensures { λ r. ⌜ r ≡ keywordOf (now (word .entry)) ⌝ }
     {
