@@ -1,11 +1,10 @@
 -- The words of a line are read in turn.
 use Prim.Native.Nat.{ℕ}
-use mathlib.Core.Path.{_≡_, refl, sym, ap, _∙_}
+use mathlib.Core.Path.{_≡_, sym, ap, _∙_}
 use mathlib.Core.List.{List, [], _∷_}
 use native.Mathlib.Omega.{arith}
 use Rattle.std.specs.declared.result.Result.{Result}
 use Rattle.std.specs.declared.result.Result.the-variants.{Ok, Err}
-use Rattle.event.specs.declared.Start.{Start}
 use Rattle.dayfile.specs.declared.flaw.FlawKind.{FlawKind}
 use Rattle.dayfile.specs.Words.{numberOf}
 use Rattle.dayfile.specs.Lines.{then, next, paired, momentOf, milkingOf}

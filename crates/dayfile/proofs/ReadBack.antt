@@ -1,29 +1,27 @@
 -- A plan that is written out is read back.
-use Prim.Native.Nat.{ℕ, _+_, _-_, _*_, _^_, _<_, _≤_}
-use mathlib.Core.Path.{_≡_, refl, sym, ap, subst, _∙_}
-use mathlib.Core.Bool.{Bool, true, false, cond, _&&_}
+use Prim.Native.Nat.{ℕ, _+_, _-_, _*_, _≤_}
+use mathlib.Core.Path.{_≡_, refl, sym, ap, _∙_}
+use mathlib.Core.Bool.{Bool, true, false, _&&_}
 use mathlib.Core.List.{List, [], _∷_, _++_, map, append-assoc, append-nil}
 use mathlib.Core.Logic.{_⊎_, inl, inr}
 use native.Mathlib.Omega.{arith}
 use borrow.Author.Needs.{needs}
 use lib.Chars.{codes}
 use lib.Dec.{leb}
-use lib.ListN.{length}
 use Rattle.std.specs.declared.option.Option.{Option}
 use Rattle.std.specs.declared.option.Option.the-variants.{Some, None}
 use Rattle.std.specs.declared.result.Result.{Result}
-use Rattle.std.specs.declared.result.Result.the-variants.{Ok, Err}
+use Rattle.std.specs.declared.result.Result.the-variants.{Ok}
 use Rattle.std.specs.Text.{asciiDigit}
 use Rattle.std.specs.Written.{decimal}
 use Rattle.std.specs.shelf.Lists.{All, joined, folded, kept-by}
 use Rattle.std.specs.shelf.Text.{allDigits}
 use Rattle.std.proofs.shelf.Decimals.{digits-decimal, value-decimal, decimal-some}
-use Rattle.std.proofs.shelf.Elements.{all-weaker, all-map, all-append}
+use Rattle.std.proofs.shelf.Elements.{all-weaker, all-append}
 use Rattle.std.proofs.shelf.Numerals.{Numerals, numerals-by-fold, tells-allDigits}
 use Rattle.std.proofs.shelf.Tests.{both-ways, cond-true, cond-false, and-from, and-parts, or-from, le-leb, leb-true, ne-eqb}
 use Rattle.event.specs.declared.Start.{Start}
 use Rattle.dayfile.specs.declared.flaw.Flaw.{Flaw}
-use Rattle.dayfile.specs.declared.flaw.FlawKind.{FlawKind}
 use Rattle.dayfile.specs.declared.line.Settings.{Settings}
 use Rattle.dayfile.specs.declared.line.Entry.{Entry}
 use Rattle.dayfile.specs.declared.line.Entry.the-variants.{Set, Milked}
@@ -31,8 +29,10 @@ use Rattle.dayfile.specs.declared.plan.Plan.{Plan}
 use Rattle.dayfile.specs.declared.text.Mark.the-variants.{Newline, Hash}
 use Rattle.dayfile.specs.Text.{blank, marks, some, fronted, before, pieces, linesOf, said, wordsOf}
 use Rattle.dayfile.specs.Words.{isNumber, valueOf, numberOf}
-use Rattle.dayfile.specs.Lines.{then, ended, entryOf}
-use Rattle.dayfile.specs.Plans.{Told, Sheet, nothingTold, noted, atLine, finished, readOn, readText, Farmed, answer, OutOfMemory}
+use Rattle.dayfile.specs.Lines.{then, entryOf}
+use Rattle.dayfile.specs.Plans.{Told, Sheet, nothingTold, noted, atLine, readOn, readText}
+use Rattle.dayfile.specs.Held.{answer, OutOfMemory}
+use Rattle.dayfile.specs.Laws.{Farmed}
 use Rattle.dayfile.specs.Written.{spaced, milkedWords, writtenWords, written, counted, Writable}
 use Rattle.dayfile.proofs.Digits.{some-so}
 

@@ -28,8 +28,10 @@ use Rattle.dayfile.specs.declared.word.Keyword.{Keyword}
 use Rattle.dayfile.specs.declared.word.Keyword.the-variants as key
 use Rattle.dayfile.specs.Text.{linesOf, said, wordsOf}
 use Rattle.dayfile.specs.Words.{keywordOf, isNumber, valueOf, numberOf}
-use Rattle.dayfile.specs.Lines.{then, next, onlyNumber, once, momentOf, milkingOf, milkedBy, farmsSet, tankersSet, endSet, entryBy, entryUnder, entryOf}
-use Rattle.dayfile.specs.Plans.{Told, Sheet, sheetOf, nothingTold, noted, atLine, step, needed, finished, readOn, readText, answer, OutOfMemory, Farmed, Sound}
+use Rattle.dayfile.specs.Lines.{then, next, onlyNumber, once, momentOf, milkingOf, milkedBy, entryBy, entryUnder, entryOf}
+use Rattle.dayfile.specs.Plans.{Told, Sheet, nothingTold, noted, atLine, step, needed, finished, readOn, readText}
+use Rattle.dayfile.specs.Held.{sheetOf, answer, OutOfMemory}
+use Rattle.dayfile.specs.Laws.{Farmed, Sound}
 
 -- what holds of a value that is read on holds at the end
 made-then : {X Y E : Type 0} (P : X → Type 0) (Q : Y → Type 0) (r : Result X E) (more : X → Result Y E) → made r P → ((x : X) → P x → made (more x) Q) → made (then r more) Q

@@ -5,13 +5,14 @@ use mathlib.Core.List.{List, _∷_}
 use mathlib.Core.Logic.{_⊎_, inl, inr}
 use lib.ListN.{length}
 use Rattle.std.specs.declared.result.Result.{Result}
-use Rattle.std.specs.declared.result.Result.the-variants.{Ok, Err}
+use Rattle.std.specs.declared.result.Result.the-variants.{Err}
 use Rattle.std.proofs.shelf.Lists.{nil-from-length}
 use Rattle.dayfile.specs.declared.flaw.Flaw.{Flaw}
 use Rattle.dayfile.specs.declared.plan.Plan.{Plan}
 use Rattle.dayfile.specs.Text.{linesOf}
 use Rattle.dayfile.specs.Lines.{then}
-use Rattle.dayfile.specs.Plans.{Told, step, finished, readOn, readText, answer, Memory, OutOfMemory}
+use Rattle.dayfile.specs.Plans.{Told, step, finished, readOn, readText}
+use Rattle.dayfile.specs.Held.{answer, Memory, OutOfMemory}
 
 -- what is left of the text, after what was told, gives what the whole text gives
 module _ (text : List ℕ) (n : ℕ) (t : Told) (rest : List ℕ) (left : readOn n t (linesOf rest) ≡ readText text) (r : Result Plan Flaw) where

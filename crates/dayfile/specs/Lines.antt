@@ -3,12 +3,10 @@ use Prim.Native.Nat.{ℕ}
 use mathlib.Core.Bool.{cond}
 use mathlib.Core.List.{List, [], _∷_}
 use lib.Chars.{codes}
-use denote.Ref.{RefT}
 use Rattle.std.specs.declared.option.Option.{Option}
 use Rattle.std.specs.declared.option.Option.the-variants.{Some, None}
 use Rattle.std.specs.declared.result.Result.{Result}
 use Rattle.std.specs.declared.result.Result.the-variants.{Ok, Err}
-use Rattle.std.specs.Results.{mapped}
 use Rattle.std.specs.shelf.Text.{sameBytes}
 use Rattle.event.specs.declared.Start.{Start}
 use Rattle.dayfile.specs.declared.flaw.FlawKind.{FlawKind}
@@ -18,7 +16,6 @@ use Rattle.dayfile.specs.declared.line.Entry.{Entry}
 use Rattle.dayfile.specs.declared.line.Entry.the-variants as entry
 use Rattle.dayfile.specs.declared.word.Keyword.{Keyword}
 use Rattle.dayfile.specs.declared.word.Keyword.the-variants as key
-use Rattle.dayfile.specs.Text.{wordsOf}
 use Rattle.dayfile.specs.Words.{keywordOf, numberOf}
 
 -- what is read goes on, and a flaw stays a flaw
@@ -31,15 +28,20 @@ abbrev pub next : {X Y : Type 0} → (List ℕ → Result X FlawKind) → List (
 next read [] more = Err TooFewWords
 next read (w ∷ ws) more = then (read w) (λ x. more x ws)
 
+-- a number and the words after it
+abbrev pub paired : ℕ → List (List ℕ) → Result (ℕ × List (List ℕ)) FlawKind
+paired n ws = Ok (n, ws)
+
 -- nothing more is said
 abbrev pub ended : {X : Type 0} → X → List (List ℕ) → Result X FlawKind
 ended x [] = Ok x
 ended x (w ∷ ws) = Err TooManyWords
 
+-- the word "at"
 abbrev pub atWord : List ℕ → Result (List ℕ) FlawKind
 atWord w = cond (sameBytes w (codes "at")) (Ok w) (Err AtMissing)
 
--- one number up to high
+-- one number up to high, and nothing more
 abbrev pub onlyNumber : ℕ → List (List ℕ) → Result ℕ FlawKind
 onlyNumber high ws = next (numberOf 0 high) ws ended
 
@@ -54,7 +56,7 @@ milkingOf farms ws =
     next (numberOf 0 4294967295) ws (λ litres ws.
     then (momentOf ws) (λ time. Ok (record { time = time; receiver = farm; kind = 0; «data» = litres }))))
 
--- what is given once
+-- what was given before is given twice
 abbrev pub once : {X : Type 0} → Option ℕ → Result X FlawKind → Result X FlawKind
 once None given = given
 once (Some n) given = Err GivenTwice
@@ -71,17 +73,19 @@ tankersSet s ws = once (s .tankers) (then (onlyNumber 255 ws) (λ n. Ok (record 
 abbrev pub endSet : Settings → List (List ℕ) → Result Settings FlawKind
 endSet s ws = once (s .end) (then (onlyNumber 4294967295 ws) (λ n. Ok (record { farms = s .farms; tankers = s .tankers; end = Some n })))
 
--- milked FARM LITRES at TIME
+-- milked FARM LITRES at TIME, after farms
 abbrev pub milkedBy : Option ℕ → List (List ℕ) → Result Start FlawKind
 milkedBy None ws = Err MilkedBeforeFarms
 milkedBy (Some farms) ws = milkingOf farms ws
 
+-- the words after a keyword
 abbrev pub entryBy : Settings → Keyword → List (List ℕ) → Result Entry FlawKind
 entryBy s key.Farms ws = then (farmsSet s ws) (λ t. Ok (entry.Set t))
 entryBy s key.Tankers ws = then (tankersSet s ws) (λ t. Ok (entry.Set t))
 entryBy s key.End ws = then (endSet s ws) (λ t. Ok (entry.Set t))
 entryBy s key.Milked ws = then (milkedBy (s .farms) ws) (λ m. Ok (entry.Milked m))
 
+-- the words after the first
 abbrev pub entryUnder : Settings → Option Keyword → List (List ℕ) → Result Entry FlawKind
 entryUnder s None ws = Err UnknownWord
 entryUnder s (Some k) ws = entryBy s k ws
@@ -90,11 +94,3 @@ entryUnder s (Some k) ws = entryBy s k ws
 abbrev pub entryOf : Settings → List (List ℕ) → Result Entry FlawKind
 entryOf s [] = Ok entry.Nothing
 entryOf s (w ∷ ws) = entryUnder s (keywordOf w) ws
-
--- a number with the words after it: as code holds them, and as they are read
-abbrev pub behind : Result (ℕ × RefT (List ℕ)) FlawKind → Result (ℕ × List (List ℕ)) FlawKind
-behind (Ok p) = Ok (p .0, wordsOf (p .1 .now))
-behind (Err k) = Err k
-
-abbrev pub paired : ℕ → List (List ℕ) → Result (ℕ × List (List ℕ)) FlawKind
-paired n ws = Ok (n, ws)

@@ -1,23 +1,35 @@
 -- The plan that a day file tells, line by line.
-use Prim.Native.Nat.{ℕ, _+_, _≤_}
-use mathlib.Core.Path.{_≡_}
+--
+-- A day file is a text for people:
+--
+--     # Tuesday
+--     farms 3
+--     tankers 1
+--     end 3000
+--     milked 2 1000 at 0        # farm, litres, second of the day
+--     milked 1 500 at 5
+--
+-- Text: a line ends at a newline, which the last may lack. '#' begins a comment that goes on to the end of the line.
+-- Words stand between blanks, which are spaces, tabs and carriage returns.
+-- Words: a number is one or more decimal digits and nothing else. It goes up to 255 (8 bits) for farms and tankers, up to
+-- 4294967295 (32 bits) for the end, litres and times, and from 1 to the file's farms for a farm.
+-- Lines: a line with no word says nothing. Any other is `farms N`, `tankers N`, `end N` or `milked FARM LITRES at TIME`.
+-- Plans: farms, tankers and end are given once each, in any sequence, and farms before the first milking. Milkings are any
+-- number. A flaw is the first in the sequence of the text and is told with its line, from 1; what is missing is told at
+-- the line after the last, farms first, then tankers, then end.
+use Prim.Native.Nat.{ℕ, _+_}
 use mathlib.Core.List.{List, [], _∷_, _++_}
-use lib.ListN.{length}
 use Rattle.std.specs.declared.option.Option.{Option}
 use Rattle.std.specs.declared.option.Option.the-variants.{Some, None}
 use Rattle.std.specs.declared.result.Result.{Result}
 use Rattle.std.specs.declared.result.Result.the-variants.{Ok, Err}
-use Rattle.std.specs.Of.Vec.{vec-items}
-use Rattle.std.specs.shelf.Lists.{All}
 use Rattle.event.specs.declared.Start.{Start}
 use Rattle.dayfile.specs.declared.flaw.Flaw.{Flaw}
 use Rattle.dayfile.specs.declared.flaw.FlawKind.{FlawKind}
-use Rattle.dayfile.specs.declared.flaw.FlawKind.the-variants.{FarmsMissing, TankersMissing, EndMissing, NoMemory}
+use Rattle.dayfile.specs.declared.flaw.FlawKind.the-variants.{FarmsMissing, TankersMissing, EndMissing}
 use Rattle.dayfile.specs.declared.line.Settings.{Settings}
 use Rattle.dayfile.specs.declared.line.Entry.{Entry}
 use Rattle.dayfile.specs.declared.line.Entry.the-variants.{Nothing, Set, Milked}
-use Rattle.dayfile.specs.declared.plan.Plan.{Plan}
-use Rattle.dayfile.specs.declared.plan.Draft.{Draft}
 use Rattle.dayfile.specs.Text.{linesOf, said, wordsOf}
 use Rattle.dayfile.specs.Lines.{then, entryOf}
 
@@ -36,16 +48,11 @@ pub record Sheet : Type 0 where
   -- the line of each start
   pub lines : List ℕ
 
-abbrev pub toldBy : Draft → Told
-toldBy d = record { settings = d .settings; starts = vec-items (d .starts); lines = vec-items (d .lines) }
-
-abbrev pub sheetOf : Plan → Sheet
-sheetOf p = record { farms = p .farms; tankers = p .tankers; end = p .end; starts = vec-items (p .starts); lines = vec-items (p .lines) }
-
+-- before the first line
 abbrev pub nothingTold : Told
 nothingTold = record { settings = record { farms = None; tankers = None; end = None }; starts = []; lines = [] }
 
--- with what line n says
+-- with what line n says: a milking goes behind those before it, and so does its line
 abbrev pub noted : ℕ → Told → Entry → Told
 noted n t Nothing = t
 noted n t (Set s) = record { settings = s; starts = t .starts; lines = t .lines }
@@ -56,7 +63,7 @@ abbrev pub atLine : {X : Type 0} → ℕ → Result X FlawKind → Result X Flaw
 atLine n (Ok x) = Ok x
 atLine n (Err k) = Err (record { line = n; kind = k })
 
--- line n
+-- line n, without its comment
 abbrev pub step : ℕ → Told → List ℕ → Result Told Flaw
 step n t line = then (atLine n (entryOf (t .settings) (wordsOf (said line)))) (λ e. Ok (noted n t e))
 
@@ -82,27 +89,3 @@ readOn n t (l ∷ ls) = then (step n t l) (λ t. readOn (n + 1) t ls)
 -- the plan of a day file, or its first flaw
 abbrev pub readText : List ℕ → Result Sheet Flaw
 readText text = readOn 1 nothingTold (linesOf text)
-
--- the reader ran out of memory
-abbrev pub Memory : Flaw → Type 0
-Memory f = f .kind ≡ NoMemory
-
-abbrev pub OutOfMemory : Result Plan Flaw → Type 0
-OutOfMemory (Ok p) = ⊥
-OutOfMemory (Err f) = Memory f
-
--- an answer by what its plan says
-abbrev pub answer : Result Plan Flaw → Result Sheet Flaw
-answer (Ok p) = Ok (sheetOf p)
-answer (Err f) = Err f
-
--- m is told to one of so many farms, as milk
-pub record Farmed (farms : ℕ) (m : Start) : Type 0 where
-  pub least : 1 ≤ m .receiver
-  pub most : m .receiver ≤ farms
-  pub kind : m .kind ≡ 0
-
--- every start of a plan is milk at one of its farms, and has its line
-pub record Sound (s : Sheet) : Type 0 where
-  pub farmed : All (Farmed (s .farms)) (s .starts)
-  pub lined : length (s .lines) ≡ length (s .starts)

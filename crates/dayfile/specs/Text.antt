@@ -11,17 +11,19 @@ use Rattle.dayfile.specs.declared.text.Mark.the-variants.{Newline, Hash, Blank
 abbrev pub blank : ℕ → Bool
 blank c = eqb c 32 || (eqb c 9 || eqb c 13)
 
+-- bytes of each kind: 10 is the newline and 35 is '#'
 abbrev pub marks : Mark → ℕ → Bool
 marks Newline c = eqb c 10
 marks Hash c = eqb c 35
 marks Blank c = blank c
 marks Graphic c = not (blank c)
 
+-- not empty
 abbrev pub some : List ℕ → Bool
 some [] = false
 some (c ∷ cs) = true
 
--- c in front of the first piece
+-- c in front of the first piece, or as a piece where there is none
 abbrev pub fronted : ℕ → List (List ℕ) → List (List ℕ)
 fronted c [] = (c ∷ []) ∷ []
 fronted c (p ∷ ps) = (c ∷ p) ∷ ps
@@ -37,7 +39,7 @@ module _ (mark : ℕ → Bool) where
   onward [] = []
   onward (c ∷ cs) = cond (mark c) (c ∷ cs) (onward cs)
 
-  -- the pieces, each ended by a mark; the last may want its mark
+  -- the pieces, each up to a mark; the last may lack its mark
   abbrev pub pieces : List ℕ → List (List ℕ)
   pieces [] = []
   pieces (c ∷ cs) = cond (mark c) ([] ∷ pieces cs) (fronted c (pieces cs))
@@ -50,6 +52,6 @@ linesOf text = pieces (marks Newline) text
 abbrev pub said : List ℕ → List ℕ
 said line = before (marks Hash) line
 
--- the words between blanks
+-- what stands between blanks, without what is empty
 abbrev pub wordsOf : List ℕ → List (List ℕ)
 wordsOf line = kept-by some (pieces blank line)

@@ -16,6 +16,7 @@ use Rattle.dayfile.specs.declared.word.Keyword.{Keyword}
 use Rattle.dayfile.specs.declared.word.Keyword.the-variants.{Farms, Tankers, End, Milked}
 use Rattle.dayfile.specs.Text.{some}
 
+-- the word is one of four, letter by letter
 abbrev pub keywordOf : List ℕ → Option Keyword
 keywordOf word =
     cond (sameBytes word (codes "farms")) (Some Farms)
@@ -27,7 +28,7 @@ keywordOf word =
 abbrev pub isNumber : List ℕ → Bool
 isNumber word = some word && allDigits word
 
--- what digits write; the code of '0' is 48
+-- what digits write, the first being worth most; the code of '0' is 48
 abbrev pub valueOf : List ℕ → ℕ
 valueOf word = folded (λ n c. n * 10 + (c - 48)) 0 word
 

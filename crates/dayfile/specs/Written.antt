@@ -6,7 +6,8 @@ use lib.Chars.{codes}
 use Rattle.std.specs.Written.{decimal}
 use Rattle.std.specs.shelf.Lists.{All, joined}
 use Rattle.event.specs.declared.Start.{Start}
-use Rattle.dayfile.specs.Plans.{Sheet, Farmed}
+use Rattle.dayfile.specs.Plans.{Sheet}
+use Rattle.dayfile.specs.Laws.{Farmed}
 
 -- words with a space between each two
 abbrev pub spaced : List (List ℕ) → List ℕ

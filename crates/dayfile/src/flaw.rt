@@ -33,6 +33,13 @@ pub struct Flaw {
 }
 
 impl FlawKind {
+    // A flaw of this kind on a line.
+    pub(crate) fn at(self, line: usize) -> Flaw
+        ensures { λ r. ⌜ (r .line ≡ line) × (r .kind ≡ self) ⌝ }
+    {
+        Flaw { line, kind: self }
+    }
+
     // What is wrong, in plain words.
     pub fn words(self) -> &'static str
         ensures { λ r. ⌜ now r ≡ wording self ⌝ }

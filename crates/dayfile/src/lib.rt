@@ -1,4 +1,12 @@
-// Reads a day file, a text for people, into the plan of a collection day.
+// Reads a day file, a text for people, into the plan of a collection day:
+//
+//     # Tuesday
+//     farms 3
+//     tankers 1
+//     end 3000
+//     milked 2 1000 at 0        # farm, litres, second of the day
+//
+// specs/Plans.antt has the whole format. Limits of the model and of the day are theirs to refuse.
 mod flaw;
 mod line;
 mod plan;
@@ -75,6 +83,7 @@ mod tests {
             ("farms +3", 1, FlawKind::NotANumber),
             ("farms 256", 1, FlawKind::OutOfRange),
             ("end 4294967296", 1, FlawKind::OutOfRange),
+            ("end 100000000000000000000", 1, FlawKind::OutOfRange),
             ("farms 3\n#\nfarms 3", 3, FlawKind::GivenTwice),
             ("milked 1 5 at 0\nfarms 3", 1, FlawKind::MilkedBeforeFarms),
             ("farms 3\nmilked 0 5 at 0", 2, FlawKind::OutOfRange),

@@ -1,11 +1,11 @@
 // What a line says: nothing, a setting of the day, or a milking.
-ghost use Prim.Native.Nat.{ℕ, _≤_};
-ghost use mathlib.Core.List.{List};
+ghost use Prim.Native.Nat.{_≤_};
 ghost use mathlib.Core.Path.{_≡_};
 ghost use Rattle.std.specs.Vec.{made};
 ghost use Rattle.dayfile.specs.Text.{said, wordsOf};
 ghost use Rattle.dayfile.specs.Words.{numberOf};
-ghost use Rattle.dayfile.specs.Lines.{next, behind, paired, onlyNumber, momentOf, milkingOf, farmsSet, tankersSet, endSet, entryBy, entryOf};
+ghost use Rattle.dayfile.specs.Held.{behind};
+ghost use Rattle.dayfile.specs.Lines.{next, paired, onlyNumber, momentOf, milkingOf, farmsSet, tankersSet, endSet, entryBy, entryOf};
 use crate::flaw::FlawKind;
 use crate::text::Mark;
 use crate::text::cut;
@@ -26,9 +26,11 @@ pub(crate) struct Settings {
     pub end: Option<u32>,
 }
 
+// What one line says.
 #[derive(Clone, Copy)]
 pub(crate) enum Entry {
     Nothing,
+    // with what it sets
     Set(Settings),
     Milked(Start),
 }
@@ -70,7 +72,7 @@ fn moment(line: &[u8]) -> Result<u32, FlawKind>
     only_number(rest, u32::MAX)
 }
 
-// A farm of the file, litres, and the moment.
+// A farm of the file, litres, and the moment of the milking.
 fn milking(line: &[u8], farms: u8) -> Result<Start, FlawKind>
     ensures { λ r. ⌜ r ≡ milkingOf farms (wordsOf (now (line .entry))) ⌝ }
 {
@@ -150,8 +152,8 @@ impl Settings {
     pub(crate) fn entry(self, line: &[u8]) -> Result<Entry, FlawKind>
         ensures { λ r. ⌜ r ≡ entryOf self (wordsOf (said (now (line .entry)))) ⌝ }
     {
-        let (said, _) = cut(line, Mark::Hash);
-        let Some((word, rest)) = first_word(said) else {
+        let (front, _) = cut(line, Mark::Hash);
+        let Some((word, rest)) = first_word(front) else {
             return Ok(Entry::Nothing);
         };
         match Keyword::of(word) {

@@ -1,12 +1,12 @@
 // The plan of a day, as its file tells it line by line.
-ghost use Prim.Native.Nat.{ℕ, _+_, _<_, _≤_};
 ghost use mathlib.Core.Logic.{_⊎_};
 ghost use mathlib.Core.Path.{_≡_};
-ghost use Rattle.std.specs.Of.Vec.{vec-items};
 ghost use Rattle.std.specs.Results.{Cases};
 ghost use Rattle.std.specs.Vec.{made};
 ghost use Rattle.std.specs.declared.result.Result.the-variants.{Ok, Err};
-ghost use Rattle.dayfile.specs.Plans.{Sheet, toldBy, sheetOf, noted, nothingTold, step, finished, readText, answer, Memory, OutOfMemory, Sound};
+ghost use Rattle.dayfile.specs.Held.{toldBy, sheetOf, answer, Memory, OutOfMemory};
+ghost use Rattle.dayfile.specs.Laws.{Sound};
+ghost use Rattle.dayfile.specs.Plans.{Sheet, noted, nothingTold, step, finished, readText};
 ghost use Rattle.dayfile.specs.Written.{Writable, written};
 use crate::flaw::Flaw;
 use crate::flaw::FlawKind;
@@ -66,20 +66,17 @@ impl Draft {
         Ok(())
     }
 
-    // Takes line `n`.
+    // Takes line `n`, or tells its flaw.
     fn take(&mut self, n: usize, line: &[u8]) -> Result<(), Flaw>
         ensures { λ r. ⌜ Cases r (λ _. step n (toldBy (now (self .entry))) (now (line .entry)) ≡ Ok (toldBy (now (self .exit)))) (λ f. Memory f ⊎ (step n (toldBy (now (self .entry))) (now (line .entry)) ≡ Err f)) ⌝ }
     {
         let entry = match self.settings.entry(line) {
             Ok(entry) => entry,
-            Err(kind) => return Err(Flaw { line: n, kind }),
+            Err(kind) => return Err(kind.at(n)),
         };
         match self.note(n, entry) {
             Ok(()) => Ok(()),
-            Err(_) => Err(Flaw {
-                line: n,
-                kind: FlawKind::NoMemory,
-            }),
+            Err(_) => Err(FlawKind::NoMemory.at(n)),
         }
     }
 
@@ -92,24 +89,9 @@ impl Draft {
             starts,
             lines,
         } = self;
-        let Some(farms) = settings.farms else {
-            return Err(Flaw {
-                line: n,
-                kind: FlawKind::FarmsMissing,
-            });
-        };
-        let Some(tankers) = settings.tankers else {
-            return Err(Flaw {
-                line: n,
-                kind: FlawKind::TankersMissing,
-            });
-        };
-        let Some(end) = settings.end else {
-            return Err(Flaw {
-                line: n,
-                kind: FlawKind::EndMissing,
-            });
-        };
+        let farms = settings.farms.ok_or(FlawKind::FarmsMissing.at(n))?;
+        let tankers = settings.tankers.ok_or(FlawKind::TankersMissing.at(n))?;
+        let end = settings.end.ok_or(FlawKind::EndMissing.at(n))?;
         Ok(Plan {
             farms,
             tankers,
@@ -120,7 +102,8 @@ impl Draft {
     }
 }
 
-// The plan that a day file tells, or its first flaw.
+// The plan that a day file tells, or its first flaw; in place of either, want of memory.
+// A plan that is written out as a text is read back from it.
 pub fn read(heap: Global, text: &[u8]) -> Result<Plan, Flaw>
     ensures value { λ r. ⌜ OutOfMemory r ⊎ (answer r ≡ readText (now (text .entry))) ⌝ }
     ensures sound { λ r. ⌜ made r (λ p. Sound (sheetOf p)) ⌝ }

@@ -1,5 +1,5 @@
 // What a word says: the keyword that begins a line, or a number.
-ghost use Prim.Native.Nat.{ℕ, min, _≤_};
+ghost use Prim.Native.Nat.{min, _≤_};
 ghost use mathlib.Core.Bool.{cond};
 ghost use mathlib.Core.Path.{_≡_};
 ghost use Rattle.std.specs.Vec.{made};
@@ -18,6 +18,7 @@ pub(crate) enum Keyword {
 }
 
 impl Keyword {
+    // The keyword that a word is, if it is one.
     pub(crate) fn of(word: &[u8]) -> Option<Keyword>
         ensures { λ r. ⌜ r ≡ keywordOf (now (word .entry)) ⌝ }
     {

@@ -4,7 +4,7 @@ use native.Mathlib.Omega.{arith}
 use Rattle.std.specs.declared.result.Result.the-variants.{Err}
 use Rattle.std.proofs.shelf.Results.{err-from-errBy}
 use Rattle.std.proofs.shelf.Tests.{eqb-true, eqb-false}
-use Rattle.dayfile.specs.Plans.{toldBy}
+use Rattle.dayfile.specs.Held.{toldBy}
 use Rattle.dayfile.proofs.Turns.{stopped, over}
 use Rattle.dayfile.proofs.Soundness.{sound-answer}
 use Rattle.dayfile.proofs.ReadBack.{answered}

@@ -3,7 +3,8 @@ use Prim.Native.Nat.{_+_, _≤_}
 use mathlib.Core.Path.{_≡_}
 use lib.ListN.{length}
 use Rattle.dayfile.specs.Text.{linesOf}
-use Rattle.dayfile.specs.Plans.{toldBy, readOn, readText}
+use Rattle.dayfile.specs.Plans.{readOn, readText}
+use Rattle.dayfile.specs.Held.{toldBy}
 use Rattle.dayfile.proofs.plan.read.Given as given
 
 abbrev pub Inv-loop-rest : given.InvT-loop-rest
