@@ -38,7 +38,7 @@ module _ (M : Meaning) (end : ℕ) (starts : List Start) (os : List Order) (o : 
   push-other n d ne = ordered-push n os o d ∙ cond-false (eqb (o .position) n) _ _ (ne-eqb (o .position) n ne)
 
   -- an order changes nothing before its position
-  alone-before : (n : ℕ) → n < o .position → alone M end starts (os ++ o ∷ []) n ≡ alone M end starts os n
+  pub alone-before : (n : ℕ) → n < o .position → alone M end starts (os ++ o ∷ []) n ≡ alone M end starts os n
   unfolding alone
   alone-before zero h = push-other 0 _ (λ e. let z : ⊥ = omega arith in z)
   alone-before (suc n) h =

@@ -29,7 +29,7 @@ use Rattle.day.proofs.Events.{all-rest, stamped-receivers}
 use Rattle.day.proofs.Numbers.{InSequence, Between, length-stamped, stamped-sequence, starts-sequence, numbered-all, sequence-between, sequence-distinct}
 
 -- what is stamped comes later
-stamped-later : (n now s from : ℕ) (ss : List Sent) → All (Within n) ss → All (λ m. now < m .time) (stamped now s from ss)
+pub stamped-later : (n now s from : ℕ) (ss : List Sent) → All (Within n) ss → All (λ m. now < m .time) (stamped now s from ss)
 stamped-later n now s from [] h = tt
 stamped-later n now s from (x ∷ ss) h = let a = h .0 .least in (omega arith, stamped-later n now s (suc from) ss (h .1))
 

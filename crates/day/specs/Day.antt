@@ -50,6 +50,10 @@ within end ms = kept-by (λ m. leb (m .time) end) ms
 abbrev pub sentBy : Meaning → Place → Message → List Message
 sentBy M p m = stamped (m .time) (m .receiver) (p .sent) (listed (reaction M p m .sends))
 
+-- those of them that go on to wait
+abbrev pub postedBy : Meaning → ℕ → Place → Message → List Message
+postedBy M end p m = within end (sentBy M p m)
+
 -- its words are the reaction's, and its send count grows by one for each message, lost ones too
 abbrev pub placeAfter : Meaning → Place → Message → Place
 placeAfter M p m = record { words = reaction M p m .words; order = p .order; sent = p .sent + length (listed (reaction M p m .sends)) }
@@ -58,7 +62,7 @@ abbrev pub eventAt : Meaning → ℕ → Day → Option Message → Day
 eventAt M end d None = d
 eventAt M end d (Some m) = record {
   place = λ p. cond (eqb p (m .receiver)) (placeAfter M (d .place (m .receiver)) m) (d .place p);
-  waiting = insertAll keyOf (within end (sentBy M (d .place (m .receiver)) m)) (rest (d .waiting));
+  waiting = insertAll keyOf (postedBy M end (d .place (m .receiver)) m) (rest (d .waiting));
   journal = d .journal ++ m ∷ [];
 }
 

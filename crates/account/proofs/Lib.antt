@@ -1,0 +1,15 @@
+pub mod After
+pub mod Alone
+pub mod Calls
+pub mod ChainAfter
+pub mod ChainStep
+pub mod Chains
+pub mod Clock
+pub mod Counts
+pub mod Events
+pub mod Executions
+pub mod Finding
+pub mod Histories
+pub mod Leaders
+pub mod Past
+pub mod Step
