@@ -1,5 +1,5 @@
 -- Park and Miller's minimal standard.
-use Prim.Native.Nat.{ℕ, _*_, _%_}
+use Prim.Native.Nat.{ℕ, zero, suc, _*_, _%_}
 
 -- the prime 2^31 − 1
 abbrev pub modulus : ℕ
@@ -16,3 +16,8 @@ timesOf a b = a * b % modulus
 -- the draw that follows x
 abbrev pub drawOf : ℕ → ℕ
 drawOf x = timesOf factor x
+
+-- the number after n draws from x
+unfoldable pub drawsOf : ℕ → ℕ → ℕ
+drawsOf zero x = x
+drawsOf (suc n) x = drawOf (drawsOf n x)

@@ -1,6 +1,6 @@
 // Streams of random numbers: Park and Miller's minimal standard, and where each of 256 streams begins.
 ghost use mathlib.Core.Path.{_≡_};
-ghost use Rattle.streams.specs.Draws.{timesOf, drawOf};
+ghost use Rattle.streams.specs.Draws.{timesOf, drawOf, drawsOf};
 ghost use Rattle.streams.specs.Multipliers.{multiplierOf, Multipliers};
 use table::MULTIPLIERS;
 
@@ -26,6 +26,17 @@ pub fn draw(x: u32) -> u32
     ensures { λ r. ⌜ r ≡ drawOf x ⌝ }
 {
     times(FACTOR, x)
+}
+
+// The number after n draws from x.
+pub fn draws(n: u32, x: u32) -> u32
+    ensures { λ r. ⌜ r ≡ drawsOf n x ⌝ }
+{
+    let mut last = x;
+    for _i in 0..n {
+        last = draw(last);
+    }
+    last
 }
 
 // The multipliers of all streams.

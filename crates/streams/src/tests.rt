@@ -4,17 +4,14 @@ use std::test::*;
 
 #[test]
 fn the_first_draws_from_one() -> Result<(), Fail> {
-    let mut x = 1;
-    for expected in [
-        16807,
-        282475249,
-        1622650073,
-        984943658,
-        1144108930,
-        470211272,
+    for (n, expected) in [
+        (0, 1),
+        (1, 16807),
+        (2, 282475249),
+        (3, 1622650073),
+        (4, 984943658),
     ] {
-        x = draw(x);
-        check_eq(x, expected)?;
+        check_eq(draws(n, 1), expected)?;
     }
     Ok(())
 }
