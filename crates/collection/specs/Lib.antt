@@ -9,4 +9,3 @@ pub mod Replies
 pub mod Roads
 pub mod Rules
 pub mod Tanker
-pub mod Worked

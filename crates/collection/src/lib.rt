@@ -6,7 +6,6 @@ ghost use Rattle.std.specs.Results.{mapped};
 ghost use Rattle.std.specs.declared.result.Result.the-variants.{Ok, Err};
 ghost use Rattle.model.specs.declared.ModelFault.the-variants.{Limits};
 ghost use Rattle.collection.specs.Places.{allowed};
-ghost use Rattle.collection.specs.Worked.{Worked};
 use model::ModelFault;
 pub use reaction::CollectionModel;
 
@@ -75,11 +74,4 @@ impl Collection {
     {
         self.tankers
     }
-}
-
-// The days worked on paper, shown of the rules.
-pub fn worked_cases() -> u8
-    ensures { λ _. ⌜ Worked ⌝ }
-{
-    0
 }

@@ -1,0 +1,3 @@
+pub mod Powers
+pub mod Tables
+pub mod Quick
