@@ -9,16 +9,17 @@ use Rattle.std.specs.declared.option.Option.the-variants.{Some, None}
 use Rattle.std.proofs.shelf.Tests.{cases-bool, both-ways, and-left}
 use Rattle.event.specs.declared.Key.{Key}
 use Rattle.model.specs.Meaning.{Meaning, Law}
-use Rattle.account.specs.Account.{Account, ind, anyBelow, sumBelow, least, runs, reachedBy, leadsRun}
-use Rattle.account.specs.Groups.{leads}
+use Rattle.account.specs.Account.{Account, After, ind, anyBelow, sumBelow, least, runs, reachedBy, leadsRun}
+use Rattle.account.specs.Groups.{leads, worked}
 use Rattle.account.specs.Sound.{Sound}
 use Rattle.account.specs.Claims.{Executions-groups}
 use Rattle.account.proofs.Step.{ran-from, runs-live, agree}
 use Rattle.account.proofs.Leaders.{leaders-count, sum-same, any-same}
 use Rattle.account.proofs.After.{sound-after}
 
-pub executions-groups : Executions-groups
-executions-groups M A k gs law h is g = sum-same _ _ 16 (λ v. ap ind (one v (cases-bool (runs A k v)))) ∙ sym (leaders-count 16 (runs A k) (λ v w. not (reachedBy A k v w (k .receiver))) gs g)
+-- the executions of a step are the leaders among those that ran
+pub executions-lead : (M : Meaning) (A : Account) (k : Key) → Law M → After M A → least A 16 ≡ Some k → worked A k ≡ sumBelow (λ v. ind (leads (runs A k) (λ v w. not (reachedBy A k v w (k .receiver))) v)) 16
+executions-lead M A k law h is = sum-same _ _ 16 (λ v. ap ind (one v (cases-bool (runs A k v))))
   where
     s : Sound M A
     s = sound-after law h
@@ -34,3 +35,6 @@ executions-groups M A k gs law h is g = sum-same _ _ 16 (λ v. ap ind (one v (ca
     one : (v : ℕ) → (runs A k v ≡ true) ⊎ (runs A k v ≡ false) → leadsRun A k v ≡ leads (runs A k) (λ v w. not (reachedBy A k v w (k .receiver))) v
     one v (inl t) = ap (λ b. runs A k v && not b) (any-same _ _ v (λ w. like v w t (cases-bool (A .live w)) (cases-bool (runs A k w)) (cases-bool (reachedBy A k v w (k .receiver)))))
     one v (inr t) = and-left _ _ t ∙ sym (and-left _ _ t)
+
+pub executions-groups : Executions-groups
+executions-groups M A k gs law h is g = executions-lead M A k law h is ∙ sym (leaders-count 16 (runs A k) (λ v w. not (reachedBy A k v w (k .receiver))) gs g)

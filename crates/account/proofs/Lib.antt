@@ -1,5 +1,6 @@
 pub mod After
 pub mod Alone
+pub mod Bounds
 pub mod Calls
 pub mod ChainAfter
 pub mod ChainStep

@@ -1,5 +1,5 @@
 -- What is shown of every account.
-use Prim.Native.Nat.{ℕ, zero, suc, _+_, _<_, _≤_}
+use Prim.Native.Nat.{ℕ, zero, suc, _+_, _*_, _<_, _≤_}
 use mathlib.Core.Path.{_≡_}
 use mathlib.Core.Bool.{Bool, true, false, not}
 use mathlib.Core.List.{List}
@@ -11,8 +11,8 @@ use Rattle.event.specs.Keys.{before, same}
 use Rattle.event.specs.Lists.{Rising}
 use Rattle.model.specs.Meaning.{Meaning, Law}
 use Rattle.account.specs.Orders.{Given, aloneUnder}
-use Rattle.account.specs.Account.{Account, Call, After, least, runs, reachedBy}
-use Rattle.account.specs.Groups.{Groups, worked}
+use Rattle.account.specs.Account.{Account, Call, After, ind, sumBelow, least, runs, reachedBy}
+use Rattle.account.specs.Groups.{Groups, copies, worked}
 use Rattle.std.specs.declared.option.Option.the-variants.{Some}
 use Rattle.account.specs.Refusals.{history}
 use Rattle.account.specs.Sound.{Sound, Faithful, Bounded}
@@ -48,3 +48,11 @@ History-after = (M : Meaning) (capacity : ℕ) → Law M → (calls : List Call)
 abbrev pub Executions-groups : Type 0
 Executions-groups = (M : Meaning) (A : Account) (k : Key) (gs : List (ℕ → Bool)) → Law M → After M A → least A 16 ≡ Some k
     → Groups 16 (runs A k) (λ v w. not (reachedBy A k v w (k .receiver))) gs → worked A k ≡ length gs
+
+-- a step runs at least one execution where something waits, and at most one for each variant that ran
+abbrev pub Executions-within : Type 0
+Executions-within = (M : Meaning) (A : Account) (k : Key) → Law M → After M A → least A 16 ≡ Some k → (1 ≤ worked A k) × (worked A k ≤ sumBelow (λ v. ind (runs A k v)) 16)
+
+-- there is at least one copy of each place, and at most one for each live variant
+abbrev pub Copies-within : Type 0
+Copies-within = (M : Meaning) (A : Account) → Law M → After M A → (v : ℕ) → A .live v ≡ true → (M .places ≤ copies M A) × (copies M A ≤ M .places * sumBelow (λ w. ind (A .live w)) 16)

@@ -1,6 +1,6 @@
 // The pair account: one day run alone for each variant, and for each two variants which places are reached and which messages are marked.
 // It knows no copies, no sets and no calendar. Each function here names a theorem over every model that keeps the law and over every history of calls.
-ghost use Rattle.account.specs.Claims.{Alone-stands, Bounded-stands, Chain-stands, Executions-groups, History-after, Sound-stands, Untouched-same};
+ghost use Rattle.account.specs.Claims.{Alone-stands, Bounded-stands, Chain-stands, Copies-within, Executions-groups, Executions-within, History-after, Sound-stands, Untouched-same};
 ghost use Rattle.account.specs.Groups.{Leaders-count};
 
 // Reached and marked are symmetric, not reached is an equivalence at each place, and what is not reached is the same in both days.
@@ -55,6 +55,20 @@ pub fn leaders_count_groups() -> u8
 // A step's executions are the groups of its receiver, after the step, with a variant that ran.
 pub fn executions_are_groups() -> u8
     ensures { λ _. ⌜ Executions-groups ⌝ }
+{
+    0
+}
+
+// A step works at least one execution where something waits, and at most one for each variant that ran.
+pub fn executions_within() -> u8
+    ensures { λ _. ⌜ Executions-within ⌝ }
+{
+    0
+}
+
+// There is at least one copy of each place, and at most one for each live variant.
+pub fn copies_within() -> u8
+    ensures { λ _. ⌜ Copies-within ⌝ }
 {
     0
 }
