@@ -126,34 +126,3 @@ impl Group {
         mask
     }
 }
-
-#[cfg(test)]
-mod tests {
-    use crate::Group;
-
-    #[test]
-    fn fifteen_is_in_and_sixteen_is_not() {
-        assert!(Group::single(15).has(15));
-        assert!(Group::single(16).is_empty());
-        assert!(Group::single(3).with(16) == Group::single(3));
-        assert!(Group::single(3).without(19) == Group::single(3));
-    }
-
-    #[test]
-    fn the_least_of_several() {
-        let g = Group::single(9).with(4).with(15);
-        assert!(g.size() == 3);
-        assert!(g.least() == Some(4));
-        assert!(g.without(4).least() == Some(9));
-        assert!(Group::empty().least() == None);
-    }
-
-    #[test]
-    fn union_intersection_difference() {
-        let g = Group::single(1).with(2);
-        let h = Group::single(2).with(3);
-        assert!(g.union(h) == Group::single(1).with(2).with(3));
-        assert!(g.intersection(h) == Group::single(2));
-        assert!(g.difference(h) == Group::single(1));
-    }
-}
