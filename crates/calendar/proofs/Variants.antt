@@ -74,7 +74,7 @@ every : (P : Held → Type 0) → ((x : Held) → P x) → (xs : List Held) → 
 every P f [] = tt
 every P f (x ∷ xs) = (f x, every P f xs)
 
-joins-message : (v c : ℕ) (x : Held) → joins v c x .message ≡ x .message
+pub joins-message : (v c : ℕ) (x : Held) → joins v c x .message ≡ x .message
 joins-message v c x = cond-both (has (x .group) v) (record { message = x .message; group = with (x .group) c }) x (λ h. h .message ≡ x .message) (λ _. refl) (λ _. refl)
 
 -- the variants of a message after a spread
