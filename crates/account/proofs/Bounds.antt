@@ -17,7 +17,7 @@ use Rattle.account.specs.Claims.{Executions-within, Copies-within}
 use Rattle.account.specs.Groups.{leads, worked, copies}
 use Rattle.account.specs.Sound.{Sound}
 use Rattle.account.proofs.After.{sound-after}
-use Rattle.account.proofs.Counts.{sum-le, executions-few}
+use Rattle.account.proofs.Counts.{sum-le, ind-and, executions-few}
 use Rattle.account.proofs.Executions.{executions-lead}
 use Rattle.account.proofs.Finding.{none-some}
 use Rattle.account.proofs.Step.{some-is, runs-from}
@@ -52,12 +52,7 @@ module _ (among : ℕ → Bool) (alike : ℕ → ℕ → Bool) where
       go (inr t) (inr q) ih = absurd (both-ways (among n || anyBelow among n) (or-from _ _ q t) h)
 
   pub few-lead : (n : ℕ) → sumBelow (λ v. ind (leads among alike v)) n ≤ sumBelow (λ v. ind (among v)) n
-  few-lead n = sum-le (λ v. ind (leads among alike v)) (λ v. ind (among v)) n (λ v _. one (among v) (not (anyBelow (λ w. among w && alike v w) v)))
-    where
-      one : (b c : Bool) → ind (b && c) ≤ ind b
-      one true true = omega arith
-      one true false = omega arith
-      one false c = omega arith
+  few-lead n = sum-le (λ v. ind (leads among alike v)) (λ v. ind (among v)) n (λ v _. ind-and (among v) (not (anyBelow (λ w. among w && alike v w) v)))
 
 -- the smallest key is run by someone
 least-runs : (A : Account) (n : ℕ) (k : Key) → least A n ≡ Some k → anyBelow (runs A k) n ≡ true

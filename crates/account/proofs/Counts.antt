@@ -32,14 +32,15 @@ unfolding sumBelow
 sum-stop f m zero h k = let z : m ≡ 0 = omega arith in subst (λ i. sumBelow f 0 ≤ sumBelow f i) (sym z) (omega arith)
 sum-stop f m (suc n) h k = ⊎-elim (λ e. subst (λ i. sumBelow f (suc n) ≤ sumBelow f i) (sym e) (omega arith)) (λ ne. let l : m ≤ n = omega (arith, ne) in let a = sum-stop f m n l k in let b = k n l in omega arith) (cases-eq m (suc n))
 
+-- of those that pass, some pass another test too
+pub ind-and : (b c : Bool) → ind (b && c) ≤ ind b
+ind-and true true = omega arith
+ind-and true false = omega arith
+ind-and false c = omega arith
+
 -- the executions of a step are at most the variants that ran
 pub executions-few : (A : Account) (k : Key) → sumBelow (λ v. ind (leadsRun A k v)) 16 ≤ sumBelow (λ v. ind (runs A k v)) 16
-executions-few A k = sum-le (λ v. ind (leadsRun A k v)) (λ v. ind (runs A k v)) 16 (λ v _. one (runs A k v) _)
-  where
-    one : (b c : Bool) → ind (b && c) ≤ ind b
-    one true true = omega arith
-    one true false = omega arith
-    one false c = omega arith
+executions-few A k = sum-le (λ v. ind (leadsRun A k v)) (λ v. ind (runs A k v)) 16 (λ v _. ind-and (runs A k v) _)
 
 step-bounded-at : (M : Meaning) (A : Account) (k : Key) → Sound M A → Bounded A → Bounded (fedStepAt M A (Some k))
 step-bounded-at M A k s b =

@@ -32,7 +32,7 @@ pub record Account : Type 0 where
   pub orders : ℕ → List Given
   -- the events since load or branch
   pub since : ℕ → ℕ
-  -- of two variants the places at which they differ, and the waiting messages that one place did not send for both
+  -- of two variants the places that a chain from an order of only one of them has reached, and the messages that such a place has sent
   pub reached : ℕ → ℕ → ℕ → Bool
   pub marked : ℕ → ℕ → Key → Bool
   -- whether entry i of the first one's journal is the second one's too
