@@ -19,7 +19,7 @@ use Rattle.account.specs.Sound.{Sound}
 use Rattle.account.proofs.After.{sound-after}
 use Rattle.account.proofs.Counts.{sum-le, ind-and, executions-few}
 use Rattle.account.proofs.Executions.{executions-lead}
-use Rattle.account.proofs.Finding.{none-some}
+use Rattle.day.proofs.Places.{none-some}
 use Rattle.account.proofs.Step.{some-is, runs-from}
 
 -- where none is, none of fewer is

@@ -27,7 +27,8 @@ use Rattle.account.specs.Account.{Account, least, runs, sends, sentAt, reached
 use Rattle.account.specs.Sound.{Sound, Faithful}
 use Rattle.account.specs.Chain.{Run, In, Runs, Sends, Moment, set, ran, Since, Touched, by-order, by-message, Carried, runOf}
 use Rattle.event.proofs.Orders.{never, chain}
-use Rattle.account.proofs.Finding.{none-some, find-key, all-find}
+use Rattle.day.proofs.Places.{none-some}
+use Rattle.account.proofs.Finding.{find-key, all-find}
 use Rattle.account.proofs.Events.{all-first}
 use Rattle.account.proofs.Step.{Ran, ran-from, who, one-way, some-is, some-from, sends-ran, sends-runs, sends-over, marked-sent, marked-kept, find-ran, find-old, day-ran, day-idle, reached-sym′, receiver}
 use Rattle.account.proofs.Clock.{Clock, Ahead, sent-ahead}

@@ -19,15 +19,15 @@ use Rattle.event.specs.Keys.{keyOf, before, same}
 use Rattle.event.specs.Lists.{first, rest, Rising, insertAll}
 use Rattle.account.specs.Finds.{find}
 use Rattle.model.specs.Meaning.{Meaning, Law}
-use Rattle.day.proofs.Tidy.{stamped-later}
+use Rattle.day.proofs.Tidy.{stamped-later, first-rest}
 use Rattle.day.specs.Day.{Day, arrivalOf, sentBy, postedBy, eventAt, event, ordered}
 use Rattle.day.specs.Tidy.{Tidy}
 use Rattle.account.specs.Account.{Account, empty, origin, least, runs, fedLoad, fedBranch, fedDecide, fedWaive, fedRetire, fedStepAt, fedStep}
 use Rattle.account.specs.Sound.{Sound}
 use Rattle.event.proofs.Orders.{never, chain, apart, sooner, same-from}
-use Rattle.account.proofs.Finding.{none-some}
+use Rattle.day.proofs.Places.{none-some}
 use Rattle.event.proofs.Insertion.{rising-back, all-insertAll}
-use Rattle.account.proofs.Events.{all-first, first-rest}
+use Rattle.account.proofs.Events.{all-first}
 use Rattle.day.proofs.Events.{all-rest}
 use Rattle.account.proofs.Calls.{live-origin}
 use Rattle.account.proofs.Step.{Ran, who, day-ran, day-idle, least-first}

@@ -25,15 +25,12 @@ use Rattle.day.specs.Tidy.{Tidy}
 use Rattle.day.proofs.Events.{all-rest}
 use Rattle.day.proofs.Numbers.{Between, stamped-sequence, sequence-between, length-stamped}
 use Rattle.account.specs.Finds.{find, some, either}
-use Rattle.account.proofs.Finding.{none-some, find-none, find-insert, find-rest}
+use Rattle.day.proofs.Places.{none-some}
+use Rattle.account.proofs.Finding.{find-none, find-insert, find-rest}
 
 pub all-first : (P : Message → Type 0) (xs : List Message) (m : Message) → All P xs → first xs ≡ Some m → P m
 all-first P [] m h e = absurd (none-some m e)
 all-first P (x ∷ xs) m h e = let g : x ≡ m = cc in subst P g (h .0)
-
-pub first-rest : (xs : List Message) (m : Message) → first xs ≡ Some m → xs ≡ m ∷ rest xs
-first-rest [] m e = absurd (none-some m e)
-first-rest (x ∷ xs) m e = let g : x ≡ m = cc in ap (λ (y : Message). y ∷ xs) g
 
 -- what s sends is numbered from n on
 pub stamped-from : (t s n : ℕ) (l : List Sent) → All (Between s n (n + length l)) (stamped t s n l)

@@ -15,10 +15,8 @@ use Rattle.event.specs.declared.Key.{Key}
 use Rattle.event.specs.Keys.{keyOf, before, same}
 use Rattle.event.specs.Lists.{insert, first, rest, Rising}
 use Rattle.account.specs.Finds.{find, some, either}
+use Rattle.day.proofs.Places.{none-some}
 use Rattle.event.proofs.Orders.{never, chain, apart, same-refl, same-true, same-from, same-not, before-ne}
-
-pub none-some : {A : Type 0} (x : A) → None ≡ Some x → ⊥
-none-some x e = let z : _≡_ {A = ℕ} 0 1 = cc in omega arith
 
 pub find-key : (k : Key) (xs : List Message) (m : Message) → find k xs ≡ Some m → keyOf m ≡ k
 find-key k [] m e = absurd (none-some m e)

@@ -16,7 +16,7 @@ use Rattle.account.specs.Account.{Account, Call, load, branch, decide, waive, 
 use Rattle.account.specs.Sound.{Sound}
 use Rattle.account.specs.Refusals.{Refusal, firstOf, firstAt, badStart, refusal, toldOr, told, history}
 use Rattle.account.specs.Claims.{History-after}
-use Rattle.account.proofs.Finding.{none-some}
+use Rattle.day.proofs.Places.{none-some}
 use Rattle.account.proofs.After.{sound-after}
 
 -- where none is given, the test fails and the rest gives none

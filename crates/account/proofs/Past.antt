@@ -22,7 +22,8 @@ use Rattle.model.specs.Meaning.{Meaning, Law, listed}
 use Rattle.day.specs.Day.{Day, reaction, stamped, postedBy, placeAfter, eventAt, event, ordered, orderedPlace, starting}
 use Rattle.day.specs.Alone.{Order, orderedAt, alone}
 use Rattle.account.specs.Account.{sentAt}
-use Rattle.account.proofs.Finding.{none-some, all-find}
+use Rattle.day.proofs.Places.{none-some}
+use Rattle.account.proofs.Finding.{all-find}
 use Rattle.day.proofs.Numbers.{Between}
 use Rattle.account.proofs.Events.{stamped-from}
 

@@ -24,7 +24,8 @@ use Rattle.day.specs.Tidy.{Tidy}
 use Rattle.account.specs.Account.{Account, earlier, least, isKey, runs, sentAt, sends, reachedBy, fedStepAt, fedStep}
 use Rattle.account.specs.Sound.{Sound}
 use Rattle.event.proofs.Orders.{never, chain, apart, same-refl, same-true, same-from}
-use Rattle.account.proofs.Finding.{none-some, find-key, first-find, find-first}
+use Rattle.day.proofs.Places.{none-some}
+use Rattle.account.proofs.Finding.{find-key, first-find, find-first}
 use Rattle.event.proofs.Insertion.{rising-back}
 use Rattle.account.proofs.Events.{find-event}
 use Rattle.day.proofs.Tidy.{tidy-event}

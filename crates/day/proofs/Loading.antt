@@ -28,11 +28,8 @@ use Rattle.day.specs.Blank.{blankPlace}
 use Rattle.day.specs.Day.{Day, starting, startingPlace}
 use Rattle.day.specs.Held.{heldDay}
 use Rattle.day.proofs.Numbers.{numbered-all}
-use Rattle.day.proofs.Places.{places-by-all}
+use Rattle.day.proofs.Places.{none-some, places-by-all}
 use Rattle.day.specs.Faults.{orElse, startFault, startsFault, loadFault}
-
-none-some : {X : Type 0} (x : X) → _≡_ {A = Option X} None (Some x) → ⊥
-none-some x e = let z : _≡_ {A = ℕ} 0 1 = cc in omega arith
 
 module _ (places capacity end : ℕ) (ss : List Start) (i : ℕ) (d : Start) (l : i < length ss) where
   -- what comes of the messages from i on, by the one at i

@@ -13,6 +13,9 @@ use Rattle.std.proofs.shelf.Elements.{all-from-getD}
 use Rattle.std.proofs.shelf.Tests.{cases-eq}
 use Rattle.event.specs.Lists.{first}
 
+pub none-some : {X : Type 0} (x : X) → _≡_ {A = Option X} None (Some x) → ⊥
+none-some x e = let z : _≡_ {A = ℕ} 0 1 = cc in omega arith
+
 module _ {X : Type 0} (P : X → Type 0) (d : X) where
   pub all-by-places : (xs : List X) → ((i : ℕ) → P (getD xs i d)) → All P xs
   all-by-places xs h = all-from-getD P xs d (λ i _. h i)
@@ -31,7 +34,4 @@ module _ {X : Type 0} (P : X → Type 0) (d : X) where
   -- the first of a list of which each place has P
   pub place-first : (xs : List X) (x : X) → first xs ≡ Some x → ((i : ℕ) → P (getD xs i d)) → P x
   place-first [] x e h = absurd (none-some x e)
-    where
-      none-some : (y : X) → _≡_ {A = Option X} None (Some y) → ⊥
-      none-some y q = let z : _≡_ {A = ℕ} 0 1 = cc in omega arith
   place-first (y ∷ xs) x e h = let q : y ≡ x = cc in subst P q (h 0)

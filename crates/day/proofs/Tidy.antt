@@ -26,6 +26,7 @@ use Rattle.day.specs.Day.{Day, arrivalOf, stamped, within, reaction, sentBy, p
 use Rattle.day.specs.Alone.{Deed, run, give, done}
 use Rattle.day.specs.Tidy.{Tidy}
 use Rattle.day.proofs.Events.{all-rest, stamped-receivers}
+use Rattle.day.proofs.Places.{none-some}
 use Rattle.day.proofs.Numbers.{InSequence, Between, length-stamped, stamped-sequence, starts-sequence, numbered-all, sequence-between, sequence-distinct}
 
 -- what is stamped comes later
@@ -33,8 +34,8 @@ pub stamped-later : (n now s from : ℕ) (ss : List Sent) → All (Within n) ss 
 stamped-later n now s from [] h = tt
 stamped-later n now s from (x ∷ ss) h = let a = h .0 .least in (omega arith, stamped-later n now s (suc from) ss (h .1))
 
-first-rest : (xs : List Message) (m : Message) → first xs ≡ Some m → xs ≡ m ∷ rest xs
-first-rest [] m e = absurd (let z : _≡_ {A = ℕ} 0 1 = cc in let y : ⊥ = omega arith in y)
+pub first-rest : (xs : List Message) (m : Message) → first xs ≡ Some m → xs ≡ m ∷ rest xs
+first-rest [] m e = absurd (none-some m e)
 first-rest (x ∷ xs) m e = let q : x ≡ m = cc in ap (λ (y : Message). y ∷ xs) q
 
 module _ (M : Meaning) (law : Law M) (end : ℕ) (d : Day) (t : Tidy M d) (m : Message) (e : first (d .waiting) ≡ Some m) where
