@@ -1,5 +1,7 @@
 // The pair account: one day run alone for each variant, and for each two variants which places are reached and which messages are marked.
 // It knows no copies, no sets and no calendar. Each function here names a theorem over every model that keeps the law and over every history of calls.
+#![tactic(auto)]
+
 ghost use Rattle.account.specs.Claims.{AloneStands, BoundedStands, ChainStands, CopiesWithin, ExecutionsGroups, ExecutionsWithin, HistoryAfter, SoundStands, UntouchedSame};
 ghost use Rattle.account.specs.Groups.{LeadersCount};
 

@@ -1,4 +1,6 @@
 // What a calendar is: messages that variants wait for, by key and then older put first.
+#![tactic(auto)]
+
 pub mod fault;
 
 ghost use Rattle.std.specs.Prelude.{◌≡◌, ℕ, ◌+◌, ◌<◌, ◌≤◌, List, [], ◌∷◌, length, if◌then◌else◌, Ok, Err};

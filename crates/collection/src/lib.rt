@@ -1,4 +1,6 @@
 // A day of milk collection: farms announce their milk, the dairy sends tankers for it, and they unload at its bay.
+#![tactic(auto)]
+
 ghost use Rattle.std.specs.Prelude.{◌≡◌, ℕ, ◌≤◌, if◌then◌else◌, Ok, Err};
 ghost use Rattle.std.specs.Result.{result_map_both};
 ghost use Rattle.model.specs.declared.ModelFault.TheVariants.{Limits};

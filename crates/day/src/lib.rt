@@ -1,4 +1,6 @@
 // The day run alone, for any model.
+#![tactic(auto)]
+
 mod fault;
 mod lone;
 mod making;

@@ -1,4 +1,6 @@
 // Days run alone, against days worked out independently of the library.
+#![tactic(auto)]
+
 #[cfg(test)]
 mod tests {
     use collection::{Collection, CollectionModel, FARTHEST, MILKED};

@@ -7,6 +7,8 @@
 //     milked 2 1000 at 0        # farm, litres, second of the day
 //
 // specs/Plans.antt has the whole format. Limits of the model and of the day are theirs to refuse.
+#![tactic(auto)]
+
 mod flaw;
 mod line;
 mod plan;

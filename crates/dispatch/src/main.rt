@@ -1,4 +1,6 @@
 // dispatch FILE: reads a day file, runs the day alone, and prints what happened.
+#![tactic(auto)]
+
 ghost use Rattle.std.specs.Prelude.{◌≡◌};
 ghost use Rattle.dispatch.specs.Position.{position_of};
 

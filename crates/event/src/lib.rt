@@ -1,4 +1,6 @@
 // Messages of a day, the order of their keys, and insertion into a list in that order.
+#![tactic(auto)]
+
 ghost use Rattle.std.specs.Prelude.{◌≡◌, ℕ, ◌+◌, ◌<◌, ◌≤◌, Bool, true, ◌∷◌, length, is_ok, if◌then◌else◌, Ok, Err, vec_len, vec_capacity, filter, nat_lt};
 ghost use Rattle.std.specs.List.{insert as inserted};
 ghost use Rattle.std.specs.List.Sorted.{IsPermutation};

@@ -1,4 +1,6 @@
 // Groups: sets of the variants 0 to 15, kept as a mask of 16 bits.
+#![tactic(auto)]
+
 ghost use Rattle.std.specs.Prelude.{◌≡◌, ℕ, ◌<◌, Bool, true, false, not, ◌&&◌, ◌||◌, MatchOption, ◌==◌, nat_lt};
 ghost use Rattle.group.specs.Groups.{has, none, only, with, without, joined, shared, apart, is_empty, count};
 

@@ -1,4 +1,6 @@
 // A calendar of 512 messages in a binary heap by key and age.
+#![tactic(auto)]
+
 pub mod calendar_impl;
 mod parts;
 pub mod store;

@@ -1,4 +1,6 @@
 // What a day is a day of: places with words, and how each reacts to a message.
+#![tactic(auto)]
+
 ghost use Rattle.std.specs.Prelude.{◌≡◌, ℕ, ◌<◌, ◌≤◌, List, length};
 ghost use Rattle.model.specs.declared.Arrival.{Arrival};
 ghost use Rattle.model.specs.Faults.{refusal_of};

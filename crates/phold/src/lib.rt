@@ -1,4 +1,6 @@
 // PHOLD: places that pass messages on, each to a place and after a delay that are drawn.
+#![tactic(auto)]
+
 ghost use Rattle.std.specs.Prelude.{◌≡◌, ℕ, ◌≤◌, if◌then◌else◌, Ok, Err};
 ghost use Rattle.std.specs.Result.{result_map_both};
 ghost use Rattle.model.specs.declared.ModelFault.TheVariants.{Limits};

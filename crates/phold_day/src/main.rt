@@ -1,4 +1,6 @@
 // Tries a published draw, then runs a PHOLD day alone: its events, and how the places stand at the end.
+#![tactic(auto)]
+
 use day::LoneDay;
 use event::{Message, Start};
 use phold::Phold;

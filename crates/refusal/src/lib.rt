@@ -1,4 +1,5 @@
 // What every refused call tells: a number, the layer that refuses and a position.
+#![tactic(auto)]
 
 // Which part of the library refuses.
 #[derive(Clone, Copy, PartialEq, Eq, Debug)]

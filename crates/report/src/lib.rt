@@ -1,4 +1,6 @@
 // What happened on a collection day, in words.
+#![tactic(auto)]
+
 mod deed;
 mod figures;
 mod words;

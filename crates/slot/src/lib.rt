@@ -1,4 +1,6 @@
 // Slots: held messages with the age of their put, their order, and the choice among them.
+#![tactic(auto)]
+
 pub mod order;
 pub mod pick;
 

@@ -1,4 +1,6 @@
 // Streams of random numbers: Park and Miller's minimal standard, and where each of 256 streams begins.
+#![tactic(auto)]
+
 ghost use Rattle.std.specs.Prelude.{◌≡◌};
 ghost use Rattle.streams.specs.Draws.{times_of, draw_of, draws_of};
 ghost use Rattle.streams.specs.Multipliers.{multiplier_of, Multipliers};

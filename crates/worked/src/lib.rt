@@ -1,4 +1,6 @@
 // Ten cases worked on paper, shown of the rules of the models and of the day run alone.
+#![tactic(auto)]
+
 ghost use Rattle.std.specs.Prelude.{◌≡◌};
 ghost use Rattle.worked.specs.Worked.{Worked};
 

@@ -1,5 +1,5 @@
 -- The list is the one with m inserted, so it has the laws of insertion.
-use Rattle.std.proofs.Common.{◌≡◌, Bool, true, cond, ltb, List, ◌∷◌, vec_items, vec_len, vec_capacity, filter, sym, ap, ◌∙◌, subst, arith}
+use Rattle.std.proofs.Common.{◌≡◌, true, ltb, List, ◌∷◌, vec_items, vec_len, vec_capacity, filter, sym, ap, ◌∙◌, subst, arith}
 use Rattle.std.specs.List.{insert as inserted}
 use Rattle.std.specs.List.Sorted.{IsPermutation}
 use Rattle.std.proofs.lemmas.Bool.{lt-ltb, cond-true}
@@ -18,7 +18,7 @@ returns c =
     let done = c.insert.ensures.succeeds (omega arith) in
     let is : new ≡ insert key_of m old =
     c.insert.ensures.items ∙ cond-true _ _ _ done
-    ∙ sym (subst (λ (l : List Message). insert key_of m l ≡ inserted l c.place-for-at.result m) c.deref.ensures.value c.place-for-at.ensures.value) in
+    ∙ sym (subst (λ (l : List Message). insert key_of m l ≡ inserted l c.place_for-at.result m) c.deref.ensures.value c.place_for-at.ensures.value) in
     record {
       told = sym (cond-true _ _ _ room);
       items = is ∙ sym (cond-true _ _ _ room);

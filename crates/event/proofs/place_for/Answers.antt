@@ -1,5 +1,5 @@
 -- m goes in at the first that it comes before.
-use Rattle.std.proofs.Common.{◌≡◌, Bool, get_or, sym, refl, ap, ◌∙◌, arith, below_more}
+use Rattle.std.proofs.Common.{◌≡◌, Bool, sym, ap, ◌∙◌, arith, below_more}
 use Rattle.event.specs.declared.Key.{Key}
 use Rattle.event.specs.Keys.{key_of, before, blank}
 use Rattle.event.proofs.Insertion.{insert_at}

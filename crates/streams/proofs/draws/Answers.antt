@@ -10,4 +10,4 @@ loop-i-init c = refl
 pub loop-i-preserved : goal.loop-i-preserved
 unfolding draws_of
 loop-i-preserved c =
-    c.draw-last.ensures ∙ ap draw_of c.loop-i.invariant ∙ ap (λ n. draws_of n c.args.x) (sym (add-one c.loop-i.-i))
+    c.draw-last.ensures ∙ ap draw_of c.loop-i.invariant ∙ ap (λ n. draws_of n c.args.x) (sym (add-one c.loop-i._i))

@@ -4,4 +4,4 @@ use Rattle.streams.specs.Draws.{draws_of}
 use Rattle.streams.proofs.draws.Given as goal
 
 abbrev pub invariant-loop-i : goal.invariant-loop-i
-invariant-loop-i l = l.last ≡ draws_of l.-i l.x
+invariant-loop-i l = l.last ≡ draws_of l._i l.x

@@ -7,4 +7,4 @@ pub returns-then-is-empty : goal.returns-then-is-empty
 returns-then-is-empty c = c.is-empty.ensures.members c.if-is-empty.true
 
 pub returns : goal.returns
-returns c = least_first c.args.self (sym c.is-empty.ensures.value ∙ c.if-is-empty.false) (omega arith)
+returns c = least_first c.args.self (sym c.is_empty.ensures.value ∙ c.if-is_empty.false) (omega arith)
