@@ -1,5 +1,5 @@
 -- The digits of a mask: what its operations do to each.
-use Rattle.std.proofs.Common.{◌≡◌, ℕ, zero, suc, ◌+◌, ◌-◌, ◌*◌, ◌/◌, ◌%◌, ◌^◌, ◌<◌, ◌≤◌, min, max, Bool, true, false, cond, not, ◌&&◌, ◌||◌, eqb, ◌⊎◌, sym, refl, ap, ◌∙◌, inl, inr, add_assoc, pow-suc, div-one, one-add, arith}
+use Rattle.std.proofs.Common.{◌≡◌, ℕ, zero, suc, ◌+◌, ◌-◌, ◌/◌, ◌%◌, ◌^◌, ◌<◌, ◌≤◌, min, max, Bool, cond, not, ◌&&◌, ◌||◌, eqb, ◌⊎◌, sym, refl, ap, ◌∙◌, inl, inr, add_assoc, pow-suc, div-one, one-add, arith}
 use lib.Bits.{bit_or, bit_and, or_shr, and_shr, or_step, and_step}
 use lib.Count.{count_trailing_zeros, under, trailing_le, ones, ones_step}
 use lib.Dec.{eqb-suc-zero, eqb-zero-suc, eqb-suc-suc}

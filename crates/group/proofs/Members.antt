@@ -1,12 +1,12 @@
 -- The members of a group after each operation.
-use Rattle.std.proofs.Common.{◌≡◌, ℕ, ◌-◌, ◌^◌, ◌<◌, ◌≤◌, Bool, true, false, cond, not, ◌&&◌, ◌||◌, eqb, ltb, ◌⊎◌, sym, refl, ap, ◌∙◌, inl, inr, ⊎_elim, arith}
+use Rattle.std.proofs.Common.{◌≡◌, ℕ, ◌-◌, ◌^◌, ◌<◌, Bool, true, false, not, ◌&&◌, ◌||◌, eqb, ltb, ◌⊎◌, sym, refl, ap, ◌∙◌, inl, inr, ⊎_elim, arith}
 use lib.Bits.{bit_or, bit_and}
 use lib.Count.{count_trailing_zeros, ones}
 use Rattle.std.proofs.lemmas.Nat.{pow_below}
-use Rattle.std.proofs.lemmas.Bool.{cases_Bool, cases_lt, ltb-true, lt-ltb, eqb-true, ne_eqb, and_from, and_left, and_right, both_ways, cond-false}
+use Rattle.std.proofs.lemmas.Bool.{cases_Bool, ltb-true, lt-ltb, eqb-true, and_from, and_left, and_right, both_ways, cond-false}
 use Rattle.std.proofs.lemmas.Bool.Decides.{nat_tests}
 use Rattle.group.specs.declared.Group.{Group}
-use Rattle.group.specs.Groups.{bit, has, none, with, without, joined, shared, apart, is_empty, count}
+use Rattle.group.specs.Groups.{has, none, with, without, joined, shared, apart, is_empty, count}
 use Rattle.group.proofs.Bits.{lit, lit_or, lit_and, lit_pow, lit_rest, bit_none, zeros_below, one_there, count_same, ones_count}
 
 pub has_above : (g : Group) (w : ℕ) → ltb w 16 ≡ false → has g w ≡ false

@@ -8,7 +8,7 @@ use Rattle.collection.proofs.Collection.all_free.Goals as goal
 pub loop-tanker-preserved : goal.loop-tanker-preserved
 loop-tanker-preserved c =
     let j = c.loop-tanker.tanker in
-    c.with-bit-free.ensures.value ∙ ap (λ x. with x j) c.loop-tanker.invariant ∙ sym (all_free_more j (omega arith))
+    c.with_bit-free.ensures.value ∙ ap (λ x. with x j) c.loop-tanker.invariant ∙ sym (all_free_more j (omega arith))
 
 pub returns : goal.returns
 returns c =

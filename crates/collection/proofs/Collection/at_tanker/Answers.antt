@@ -3,5 +3,5 @@ use Rattle.std.proofs.Common.{arith}
 use Rattle.std.proofs.lemmas.Bool.Decides.{nat_tests}
 use Rattle.collection.proofs.Collection.at_tanker.Goals as goal
 
-pub returns-in-default : goal.returns-in-default
-returns-in-default c = record { words = grind (arith, nat_tests); sends = grind (arith, nat_tests) }
+pub returns-in_default : goal.returns-in_default
+returns-in_default c = record { words = grind (arith, nat_tests); sends = grind (arith, nat_tests) }

@@ -5,7 +5,7 @@ use Rattle.collection.specs.Choice.{Farthest, Smallest, Nearest, Chosen, chosen_
 use Rattle.collection.proofs.Orders.{chosen_within, farthest, smallest, nearest}
 use Rattle.collection.specs.Picking.{pick_more}
 use Rattle.collection.proofs.Collection.chosen_farm.Goals as goal
-use Rattle.collection.proofs.Collection.chosen_farm.Goals.{then-has-bit, else-has-bit}
+use Rattle.collection.proofs.Collection.chosen_farm.Goals.{then-has_bit, else-has_bit}
 
 pub better-best-requires : goal.better-best-requires
 better-best-requires c =
@@ -17,9 +17,9 @@ loop-farm-preserved c =
     let ahead = preferred c.args.order in
     let i = c.loop-farm.farm in
     let more = pick_more ahead c.args.waiting i (omega arith) in
-    elim c.if-has-bit.branch [
-      | then-has-bit w ↦ w.best-is ∙ w.better-best.ensures ∙ ap (rather ahead i) c.loop-farm.invariant ∙ sym (more ∙ cond-true _ _ _ (sym w.if-has-bit.ensures))
-      | else-has-bit w ↦ w.best-is ∙ c.loop-farm.invariant ∙ sym (more ∙ cond-false _ _ _ (sym w.if-has-bit.ensures))
+    elim c.if-has_bit.branch [
+      | then-has_bit w ↦ w.best-is ∙ w.better-best.ensures ∙ ap (rather ahead i) c.loop-farm.invariant ∙ sym (more ∙ cond-true _ _ _ (sym w.if-has_bit.ensures))
+      | else-has_bit w ↦ w.best-is ∙ c.loop-farm.invariant ∙ sym (more ∙ cond-false _ _ _ (sym w.if-has_bit.ensures))
     ]
 
 pub returns : goal.returns

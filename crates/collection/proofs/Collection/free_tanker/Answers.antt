@@ -4,12 +4,12 @@ use Rattle.collection.specs.Choice.{Smallest, free_tanker_of}
 use Rattle.collection.specs.Picking.{smallest, smallest_found, none_found, only_smallest, only_none}
 use Rattle.collection.proofs.Collection.free_tanker.Goals as goal
 
-pub returns-then-has-bit : goal.returns-then-has-bit
-returns-then-has-bit c =
+pub returns-then-has_bit : goal.returns-then-has_bit
+returns-then-has_bit c =
     let w = c.args.free in
     let t = c.args.self.now.tankers in
     let j = c.loop-tanker.tanker in
-    let found : Smallest w t j = smallest_found w t j (omega arith) (omega arith) (sym c.if-has-bit.ensures) c.loop-tanker.invariant in
+    let found : Smallest w t j = smallest_found w t j (omega arith) (omega arith) (sym c.if-has_bit.ensures) c.loop-tanker.invariant in
     record { value = only_smallest w t j found (free_tanker_of w t) (smallest w t); smallest = found }
 
 pub returns : goal.returns

@@ -14,7 +14,7 @@ returns-in-Some c =
 
 pub loop-i-preserved : goal.loop-i-preserved
 loop-i-preserved c =
-    let none = sym c.in-default.ensures in
+    let none = sym c.in_default.ensures in
     let fits = start_fits c.args.places c.args.capacity c.args.end c.loop-i.i (get_or c.args.starts.now c.loop-i.i blank_start) none in
     let room = fits.room in
     (omega arith, c.loop-i.invariant.1 ∙ starts_pass c.args.places c.args.capacity c.args.end c.args.starts.now c.loop-i.i _ (omega arith) none)

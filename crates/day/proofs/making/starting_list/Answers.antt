@@ -14,10 +14,10 @@ pub loop-i-preserved : goal.loop-i-preserved
 loop-i-preserved c =
     let inv = c.loop-i.invariant in
     let room : ltb (vec_len c.loop-i.list) (vec_capacity c.loop-i.list) ≡ true = lt-ltb _ _ (omega (arith, inv.0, inv.1)) in
-    let grown = c.insert-by-key.ensures.len ∙ cond-true _ _ _ room in (
+    let grown = c.insert_by_key.ensures.len ∙ cond-true _ _ _ room in (
       omega (arith, grown, inv.0),
-      omega (arith, inv.1, c.insert-by-key.ensures.capacity),
-      c.insert-by-key.ensures.items ∙ cond-true _ _ _ room ∙ ap (λ (m : Message). insert key_of m (vec_items c.loop-i.list)) c.message.ensures
+      omega (arith, inv.1, c.insert_by_key.ensures.capacity),
+      c.insert_by_key.ensures.items ∙ cond-true _ _ _ room ∙ ap (λ (m : Message). insert key_of m (vec_items c.loop-i.list)) c.message.ensures
           ∙ ap (insert key_of _) inv.2 ∙ sym (list_more c.args.starts.now c.loop-i.i _ (omega arith)),
     )
 

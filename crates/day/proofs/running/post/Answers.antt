@@ -11,9 +11,9 @@ returns-then-m-end c =
     let old : List Message = vec_items c.args.waiting.now in
     let room : ltb (vec_len c.args.waiting.now) (vec_capacity c.args.waiting.now) ≡ true = lt-ltb _ _ (omega arith) in
     let timely : leb c.args.m.time c.args.end ≡ true = le-leb _ _ (omega arith) in
-    let grown : vec_len c.insert-by-key.new.list ≡ _ = c.insert-by-key.ensures.len ∙ cond-true _ _ _ room in
+    let grown : vec_len c.insert_by_key.new.list ≡ _ = c.insert_by_key.ensures.len ∙ cond-true _ _ _ room in
     record {
-      items = c.insert-by-key.ensures.items ∙ cond-true _ _ _ room ∙ ap (λ (l : List Message). insert_all key_of l old) (sym (cond-true _ _ _ timely));
+      items = c.insert_by_key.ensures.items ∙ cond-true _ _ _ room ∙ ap (λ (l : List Message). insert_all key_of l old) (sym (cond-true _ _ _ timely));
       len = omega (arith, grown);
-      capacity = c.insert-by-key.ensures.capacity;
+      capacity = c.insert_by_key.ensures.capacity;
     }

@@ -1,5 +1,5 @@
 -- The members of the one that are not of the other.
-use Rattle.std.proofs.Common.{◌≡◌, sym, refl, ap, ◌∙◌, arith}
+use Rattle.std.proofs.Common.{refl, arith}
 use Rattle.group.proofs.Members.{has_apart}
 use Rattle.group.proofs.Group.difference.Goals as goal
 

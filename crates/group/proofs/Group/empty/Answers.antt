@@ -1,5 +1,5 @@
 -- No variant is in the empty group.
-use Rattle.std.proofs.Common.{◌≡◌, sym, refl, ap, ◌∙◌}
+use Rattle.std.proofs.Common.{refl}
 use Rattle.group.proofs.Members.{has_none}
 use Rattle.group.proofs.Group.empty.Goals as goal
 

@@ -1,5 +1,5 @@
 -- The digit of the mask at v, and no variant above 15.
-use Rattle.std.proofs.Common.{◌≡◌, ◌/◌, ◌^◌, true, false, ◌&&◌, eqb, ltb, sym, refl, ap, ◌∙◌, arith}
+use Rattle.std.proofs.Common.{◌≡◌, ◌/◌, ◌^◌, true, false, ◌&&◌, eqb, ltb, sym, ap, ◌∙◌, arith}
 use Rattle.std.proofs.lemmas.Nat.{and_mask}
 use Rattle.std.proofs.lemmas.Bool.{lt-ltb, le-ltb}
 use Rattle.group.specs.Groups.{bit, has}

@@ -1,5 +1,5 @@
 -- The members of both.
-use Rattle.std.proofs.Common.{◌≡◌, sym, refl, ap, ◌∙◌}
+use Rattle.std.proofs.Common.{refl}
 use Rattle.group.proofs.Members.{has_shared}
 use Rattle.group.proofs.Group.intersection.Goals as goal
 

@@ -1,5 +1,5 @@
 -- No digit is 1, or the lowest 1 is a member.
-use Rattle.std.proofs.Common.{◌≡◌, sym, refl, ap, ◌∙◌, arith}
+use Rattle.std.proofs.Common.{refl, arith}
 use Rattle.group.specs.Groups.{is_empty}
 use Rattle.group.proofs.Members.{empty_none, not_empty_least}
 use Rattle.group.proofs.Group.is_empty.Goals as goal

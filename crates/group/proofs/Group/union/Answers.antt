@@ -1,5 +1,5 @@
 -- The members of either.
-use Rattle.std.proofs.Common.{◌≡◌, sym, refl, ap, ◌∙◌}
+use Rattle.std.proofs.Common.{refl}
 use Rattle.group.proofs.Members.{has_joined}
 use Rattle.group.proofs.Group.union.Goals as goal
 

@@ -1,6 +1,6 @@
 -- One digit more.
-use Rattle.std.proofs.Common.{◌≡◌, ◌-◌, ◌^◌, sym, refl, ap, ◌∙◌, arith}
-use lib.Bits.{bit_or, bit_and}
+use Rattle.std.proofs.Common.{◌≡◌, sym, ap, ◌∙◌, arith}
+use lib.Bits.{bit_or}
 use Rattle.std.proofs.lemmas.Nat.{one_shl}
 use Rattle.std.proofs.lemmas.Bool.{lt-ltb, le-ltb, cond-true, cond-false}
 use Rattle.group.specs.Groups.{has, with}

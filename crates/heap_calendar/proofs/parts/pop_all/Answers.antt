@@ -13,20 +13,20 @@ loop-s-init c = (ap (λ l. l ++ ranked earlier (heap_items c.args.heap.now)) c.r
 pub loop-s-preserved : goal.loop-s-preserved
 loop-s-preserved c =
     let p = popped_heap _ _ c.in-Some.s c.in-Some.ensures.items c.loop-s.invariant.1 in (
-      ap (λ l. l ++ ranked earlier (heap_items c.pop.new.self)) c.push-reserved.ensures.items
+      ap (λ l. l ++ ranked earlier (heap_items c.pop.new.self)) c.push_reserved.ensures.items
           ∙ append_assoc (vec_items c.loop-s.out) (c.in-Some.s ∷ []) (ranked earlier (heap_items c.pop.new.self))
           ∙ ap (λ l. vec_items c.loop-s.out ++ l) (sym p.0) ∙ c.loop-s.invariant.0,
       p.1,
-      omega (arith, c.in-Some.ensures.len, c.push-reserved.ensures.len, c.push-reserved.ensures.capacity, c.loop-s.invariant.2),
+      omega (arith, c.in-Some.ensures.len, c.push_reserved.ensures.len, c.push_reserved.ensures.capacity, c.loop-s.invariant.2),
       c.in-Some.ensures.capacity ∙ c.loop-s.invariant.3,
-      c.push-reserved.ensures.capacity ∙ c.loop-s.invariant.4,
+      c.push_reserved.ensures.capacity ∙ c.loop-s.invariant.4,
     )
 
 pub returns : goal.returns
 returns c =
-    let z : heap_items c.loop-s.heap ≡ [] = nil_from_length _ (sym c.loop-s.heap.«data».ok.0 ∙ c.in-default.ensures.none) in
+    let z : heap_items c.loop-s.heap ≡ [] = nil_from_length _ (sym c.loop-s.heap.«data».ok.0 ∙ c.in_default.ensures.none) in
     record {
       out = sym (append-nil (vec_items c.loop-s.out)) ∙ ap (λ l. vec_items c.loop-s.out ++ ranked earlier l) (sym z) ∙ c.loop-s.invariant.0;
-      heap = c.in-default.ensures.unchanged.0 ∙ z;
-      caps = (c.in-default.ensures.capacity ∙ c.loop-s.invariant.3, c.loop-s.invariant.4);
+      heap = c.in_default.ensures.unchanged.0 ∙ z;
+      caps = (c.in_default.ensures.capacity ∙ c.loop-s.invariant.3, c.loop-s.invariant.4);
     }

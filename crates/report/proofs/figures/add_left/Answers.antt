@@ -13,7 +13,7 @@ use Rattle.report.proofs.figures.add_left.Goals as goal
 pub loop-farm-preserved : goal.loop-farm-preserved
 loop-farm-preserved c =
     row_more _ _ _ _ c.loop-farm.farm c.loop-farm.auto.farm c.loop-farm.invariant
-    (c.in-ok-push.ensures.items ∙ ap (λ (p : Place). vec_items c.loop-farm.facts ++ Left c.loop-farm.farm (get_or p.words 0 0) ∷ []) c.place-of.ensures)
+    (c.in_ok-push.ensures.items ∙ ap (λ (p : Place). vec_items c.loop-farm.facts ++ Left c.loop-farm.farm (get_or p.words 0 0) ∷ []) c.place_of.ensures)
 
 pub returns : goal.returns
 returns c =

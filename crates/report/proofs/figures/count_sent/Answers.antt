@@ -6,8 +6,8 @@ use Rattle.report.proofs.figures.count_sent.Goals as goal
 
 pub loop-m-preserved : goal.loop-m-preserved
 loop-m-preserved c = (
-  fold_more _ _ _ _ _ c.loop-m.invariant.0 blank _ c.loop-m-test.true (ap (λ (k : ℕ). c.loop-m.n + k) c.sent-once-n.ensures.value),
-  omega (arith, c.loop-m.invariant.1, c.sent-once-n.ensures.bound),
+  fold_more _ _ _ _ _ c.loop-m.invariant.0 blank _ c.loop-m-test.true (ap (λ (k : ℕ). c.loop-m.n + k) c.sent_once-n.ensures.value),
+  omega (arith, c.loop-m.invariant.1, c.sent_once-n.ensures.bound),
 )
 
 pub returns : goal.returns

@@ -5,7 +5,7 @@ use Rattle.report.proofs.Folds.{fold_more, fold_all}
 use Rattle.report.proofs.figures.was_pumped.Goals as goal
 
 pub loop-m-preserved : goal.loop-m-preserved
-loop-m-preserved c = fold_more _ _ _ _ _ c.loop-m.invariant blank _ c.loop-m-test.true (ap (λ (b : Bool). c.loop-m.seen || b) c.is-pumping-seen.ensures)
+loop-m-preserved c = fold_more _ _ _ _ _ c.loop-m.invariant blank _ c.loop-m-test.true (ap (λ (b : Bool). c.loop-m.seen || b) c.is_pumping-seen.ensures)
 
 pub returns : goal.returns
 returns c = fold_all _ _ _ _ _ c.loop-m.invariant c.loop-m-test.false

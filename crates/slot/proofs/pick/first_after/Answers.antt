@@ -11,7 +11,7 @@ use Rattle.slot.proofs.pick.first_after.Goals.{then-admitted, else-admitted}
 
 pub loop-i-preserved : goal.loop-i-preserved
 loop-i-preserved c = elim c.if-admitted.branch [
-  | then-admitted w ↦ step_yes (admits c.args.pick c.args.after) c.args.slots.now c.loop-i.i _ c.loop-i.best c.if-admitted.best c.loop-i-test.true c.loop-i.invariant (sym c.admitted.ensures ∙ w.if-admitted.true) (w.best-is ∙ w.sooner-of-best.ensures)
+  | then-admitted w ↦ step_yes (admits c.args.pick c.args.after) c.args.slots.now c.loop-i.i _ c.loop-i.best c.if-admitted.best c.loop-i-test.true c.loop-i.invariant (sym c.admitted.ensures ∙ w.if-admitted.true) (w.best-is ∙ w.sooner_of-best.ensures)
   | else-admitted w ↦ step_no (admits c.args.pick c.args.after) c.args.slots.now c.loop-i.i _ c.loop-i.best c.if-admitted.best c.loop-i-test.true c.loop-i.invariant (sym c.admitted.ensures ∙ w.if-admitted.false) w.best-is
 ]
 

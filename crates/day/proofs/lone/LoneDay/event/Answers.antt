@@ -20,9 +20,9 @@ returns g c =
     let s = c.args.self.now in
     let M : Meaning = g.M.Model.meaning s.model in
     let D : Day = day_of M s in
-    let m : Message = c.run-first.result.message in
-    let first-is = c.run-first.ensures.message in
-    let after : day_of M c.run-first.new.self ≡ event M s.end D = c.run-first.ensures.day ∙ ap (event_at M s.end D) (sym first-is) in
+    let m : Message = c.run_first.result.message in
+    let first-is = c.run_first.ensures.message in
+    let after : day_of M c.run_first.new.self ≡ event M s.end D = c.run_first.ensures.day ∙ ap (event_at M s.end D) (sym first-is) in
     let law : Law M = record {
       least = (g.met.M.Model.counted s.model).0;
       most = (g.met.M.Model.counted s.model).1;
@@ -31,11 +31,11 @@ returns g c =
     } in
     record {
       told = sym
-          (ap (ran_at M s.capacity D) first-is ∙ ap (λ (f : Option DayFault). unless f (Some (record { message = m; sends = (reaction M (D.place m.receiver) m).sends }))) (sym c.in-default.ensures)
-          ∙ ap (λ (x : Sends). Ok (Some (record { message = m; sends = x }))) (sym c.run-first.ensures.sends));
+          (ap (ran_at M s.capacity D) first-is ∙ ap (λ (f : Option DayFault). unless f (Some (record { message = m; sends = (reaction M (D.place m.receiver) m).sends }))) (sym c.in_default.ensures)
+          ∙ ap (λ (x : Sends). Ok (Some (record { message = m; sends = x }))) (sym c.run_first.ensures.sends));
       day = after;
       unchanged = λ e. absurd (true≢false e);
-      same = c.run-first.ensures.same;
+      same = c.run_first.ensures.same;
       alone = λ starts orders a. subst (Alone M s.end starts orders) (sym after) (alone_event M s.end starts orders D a);
       tidy = λ t. subst (Tidy M) (sym after) (tidy_event M law s.end D t);
     }

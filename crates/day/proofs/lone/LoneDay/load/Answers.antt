@@ -14,23 +14,23 @@ use Rattle.day.proofs.Tidy.{tidy_done, tidy_starts}
 use Rattle.day.proofs.Loading.{load_fits, starts_wait, none_sent, held_starting}
 use Rattle.day.proofs.lone.LoneDay.load.Goals as goal
 
-pub starting-list-requires : goal.starting-list-requires
-starting-list-requires g c =
-    let fits = load_fits c.places.result c.args.capacity c.args.end c.args.starts.now (sym c.in-default.ensures) in
+pub starting_list-requires : goal.starting_list-requires
+starting_list-requires g c =
+    let fits = load_fits c.places.result c.args.capacity c.args.end c.args.starts.now (sym c.in_default.ensures) in
     let few = fits.1.few in
     omega arith
 
-pub invariant-of-result : goal.invariant-of-result
-invariant-of-result g c =
+pub invariant_of-result : goal.invariant_of-result
+invariant_of-result g c =
     let M : Meaning = g.M.Model.meaning c.args.model in
     let starts : List Start = c.args.starts.now in
-    let waiting : List Message = vec_items c.in-ok-waiting.waiting in
-    let fits = load_fits c.places.result c.args.capacity c.args.end starts (sym c.in-default.ensures) in
+    let waiting : List Message = vec_items c.in_ok-waiting.waiting in
+    let fits = load_fits c.places.result c.args.capacity c.args.end starts (sym c.in_default.ensures) in
     let most : c.places.result ≤ 32 = omega (arith, c.places.ensures, (g.met.M.Model.counted c.args.model).1) in
-    let begun = c.in-ok-cells.ensures in
-    let listed = c.in-ok-waiting.ensures in
-    let empty = c.in-ok-journal.ensures in
-    let long : length (vec_items c.in-ok-cells.cells) ≡ 32 = omega (arith, c.in-ok-cells.cells.ok.0, begun.0) in (
+    let begun = c.in_ok-cells.ensures in
+    let listed = c.in_ok-waiting.ensures in
+    let empty = c.in_ok-journal.ensures in
+    let long : length (vec_items c.in_ok-cells.cells) ≡ 32 = omega (arith, c.in_ok-cells.cells.ok.0, begun.0) in (
       begun.0,
       (
         (listed.1, empty.capacity),
@@ -42,7 +42,7 @@ invariant-of-result g c =
               starts_wait (λ s. s.time ≤ c.args.end) (λ m. m.time ≤ c.args.end) (λ n s h. h) (omega arith) starts waiting listed.0 fits.1.timely,
               (
                 starts_wait (λ s. s.receiver < c.places.result) (λ m. m.receiver < 32) (λ n s h. omega arith) (omega arith) starts waiting listed.0 fits.1.placed,
-                (λ i. none_sent M (vec_items c.in-ok-cells.cells) long begun.1 _ i, tt),
+                (λ i. none_sent M (vec_items c.in_ok-cells.cells) long begun.1 _ i, tt),
               ),
             ),
           ),
@@ -55,16 +55,16 @@ returns g c =
     let m = c.args.model in
     let M : Meaning = g.M.Model.meaning m in
     let starts : List Start = c.args.starts.now in
-    let cells : List Place = vec_items c.in-ok-cells.cells in
-    let waiting : List Message = vec_items c.in-ok-waiting.waiting in
-    let journal : List Message = vec_items c.in-ok-journal.journal in
+    let cells : List Place = vec_items c.in_ok-cells.cells in
+    let waiting : List Message = vec_items c.in_ok-waiting.waiting in
+    let journal : List Message = vec_items c.in_ok-journal.journal in
     let none : load_fault_of M.places c.args.capacity c.args.end starts ≡ None =
-    subst (λ (p : ℕ). load_fault_of p c.args.capacity c.args.end starts ≡ None) c.places.ensures (sym c.in-default.ensures) in
+    subst (λ (p : ℕ). load_fault_of p c.args.capacity c.args.end starts ≡ None) c.places.ensures (sym c.in_default.ensures) in
     let fits = load_fits M.places c.args.capacity c.args.end starts none in
-    let begun = c.in-ok-cells.ensures in
-    let long : length cells ≡ 32 = omega (arith, c.in-ok-cells.cells.ok.0, begun.0) in
+    let begun = c.in_ok-cells.ensures in
+    let long : length cells ≡ 32 = omega (arith, c.in_ok-cells.cells.ok.0, begun.0) in
     let is : held_day M cells waiting journal ≡ starting M starts =
-    held_starting M cells long begun.1 starts waiting journal c.in-ok-waiting.ensures.0 c.in-ok-journal.ensures.items in
+    held_starting M cells long begun.1 starts waiting journal c.in_ok-waiting.ensures.0 c.in_ok-journal.ensures.items in
     let law : Law M = record {
       least = (g.met.M.Model.counted m).0;
       most = (g.met.M.Model.counted m).1;

@@ -13,44 +13,44 @@ use Rattle.day.proofs.Places.{place_first, places_set}
 use Rattle.day.proofs.Events.{few_sends, held_place, held_event, still_counted, stamped_receivers, still_timely, still_placed}
 use Rattle.day.proofs.lone.LoneDay.run_first.Goals as goal
 
-pub run-cell-number-requires : goal.run-cell-number-requires
-run-cell-number-requires g c =
+pub run_cell-number-requires : goal.run_cell-number-requires
+run_cell-number-requires g c =
     let s = c.args.self.now in
-    let m = c.take-first-message.result in
-    let at : m.receiver < 32 = place_first (λ x. x.receiver < 32) blank (vec_items s.waiting) m c.take-first-message.ensures.first s.placed in
+    let m = c.take_first-message.result in
+    let at : m.receiver < 32 = place_first (λ x. x.receiver < 32) blank (vec_items s.waiting) m c.take_first-message.ensures.first s.placed in
     let whole : vec_len s.cells ≡ 32 = s.whole in
     let few = s.counted m.receiver in
     record { within = omega arith; few = omega arith }
 
-pub post-all-requires : goal.post-all-requires
-post-all-requires g c =
+pub post_all-requires : goal.post_all-requires
+post_all-requires g c =
     let s = c.args.self.now in
-    let m = c.take-first-message.result in
-    let soon : m.time ≤ s.end = place_first (λ x. x.time ≤ s.end) blank (vec_items s.waiting) m c.take-first-message.ensures.first s.timely in
+    let m = c.take_first-message.result in
+    let soon : m.time ≤ s.end = place_first (λ x. x.time ≤ s.end) blank (vec_items s.waiting) m c.take_first-message.ensures.first s.timely in
     let few = s.counted m.receiver in
-    let number = c.run-cell-number.ensures.number in
-    record { room = omega (arith, s.room.0); soon = omega (arith, s.ended); few = omega arith; lawful = c.run-cell-number.ensures.lawful }
+    let number = c.run_cell-number.ensures.number in
+    record { room = omega (arith, s.room.0); soon = omega (arith, s.ended); few = omega arith; lawful = c.run_cell-number.ensures.lawful }
 
-pub invariant-of-self : goal.invariant-of-self
-invariant-of-self g c =
+pub invariant_of-self : goal.invariant_of-self
+invariant_of-self g c =
     let s = c.args.self.now in
-    let m : Message = c.take-first-message.result in
-    let number = c.run-cell-number.result.0 in
-    let sends = c.run-cell-number.result.1 in
+    let m : Message = c.take_first-message.result in
+    let number = c.run_cell-number.result.0 in
+    let sends = c.run_cell-number.result.1 in
     let waiting : List Message = vec_items s.waiting in
-    let waiting' : List Message = vec_items c.post-all.new.waiting in
+    let waiting' : List Message = vec_items c.post_all.new.waiting in
     let cells : List Place = vec_items s.cells in
-    let cells' : List Place = vec_items c.run-cell-number.new.cells in
-    let at : m.receiver < 32 = place_first (λ x. x.receiver < 32) blank waiting m c.take-first-message.ensures.first s.placed in
+    let cells' : List Place = vec_items c.run_cell-number.new.cells in
+    let at : m.receiver < 32 = place_first (λ x. x.receiver < 32) blank waiting m c.take_first-message.ensures.first s.placed in
     let long : length cells ≡ 32 = omega (arith, s.cells.ok.0, s.whole) in
     let ms : List Message = stamped m.time m.receiver number (listed sends) in
     let waits : waiting' ≡ insert_all key_of (within s.end ms) (rest waiting) =
-    c.post-all.ensures.items ∙ ap (insert_all key_of (within s.end ms)) c.take-first-message.ensures.rest in
+    c.post_all.ensures.items ∙ ap (insert_all key_of (within s.end ms)) c.take_first-message.ensures.rest in
     let grown = still_counted (g.M.Model.meaning s.model) cells m (vec_len s.journal) (omega arith) s.counted in
-    let lenj = c.push-reserved.ensures.len in (
-      c.run-cell-number.ensures.len ∙ s.whole,
+    let lenj = c.push_reserved.ensures.len in (
+      c.run_cell-number.ensures.len ∙ s.whole,
       (
-        (omega (arith, s.room.0, c.post-all.ensures.capacity, c.take-first-message.ensures.capacity), omega (arith, s.room.1, c.push-reserved.ensures.capacity)),
+        (omega (arith, s.room.0, c.post_all.ensures.capacity, c.take_first-message.ensures.capacity), omega (arith, s.room.1, c.push_reserved.ensures.capacity)),
         (
           s.ended,
           (
@@ -58,8 +58,8 @@ invariant-of-self g c =
             (
               still_timely s.end waiting waiting' ms waits s.timely,
               (
-                still_placed s.end waiting waiting' ms waits (stamped_receivers 32 m.time m.receiver number (listed sends) c.run-cell-number.ensures.lawful) s.placed,
-                (λ i. let a = grown i in let e = ap (λ (l : List Place). (get_or l i blank_place).sent) c.run-cell-number.ensures.cells in omega arith, tt),
+                still_placed s.end waiting waiting' ms waits (stamped_receivers 32 m.time m.receiver number (listed sends) c.run_cell-number.ensures.lawful) s.placed,
+                (λ i. let a = grown i in let e = ap (λ (l : List Place). (get_or l i blank_place).sent) c.run_cell-number.ensures.cells in omega arith, tt),
               ),
             ),
           ),
@@ -70,24 +70,24 @@ invariant-of-self g c =
 pub returns : goal.returns
 returns g c =
     let s = c.args.self.now in
-    let m : Message = c.take-first-message.result in
+    let m : Message = c.take_first-message.result in
     let M = g.M.Model.meaning s.model in
     let waiting : List Message = vec_items s.waiting in
-    let waiting' : List Message = vec_items c.post-all.new.waiting in
+    let waiting' : List Message = vec_items c.post_all.new.waiting in
     let cells : List Place = vec_items s.cells in
     let journal : List Message = vec_items s.journal in
     let here : Place = get_or cells m.receiver blank_place in
-    let at : m.receiver < 32 = place_first (λ x. x.receiver < 32) blank waiting m c.take-first-message.ensures.first s.placed in
+    let at : m.receiver < 32 = place_first (λ x. x.receiver < 32) blank waiting m c.take_first-message.ensures.first s.placed in
     let long : length cells ≡ 32 = omega (arith, s.cells.ok.0, s.whole) in
-    let numbered = ap (λ (n : ℕ). stamped m.time m.receiver n (listed c.run-cell-number.result.1)) c.run-cell-number.ensures.number in
-    let sent : stamped m.time m.receiver c.run-cell-number.result.0 (listed c.run-cell-number.result.1) ≡ sent_by M here m =
-    numbered ∙ ap (λ (x : Sends). stamped m.time m.receiver here.sent (listed x)) c.run-cell-number.ensures.sends in
+    let numbered = ap (λ (n : ℕ). stamped m.time m.receiver n (listed c.run_cell-number.result.1)) c.run_cell-number.ensures.number in
+    let sent : stamped m.time m.receiver c.run_cell-number.result.0 (listed c.run_cell-number.result.1) ≡ sent_by M here m =
+    numbered ∙ ap (λ (x : Sends). stamped m.time m.receiver here.sent (listed x)) c.run_cell-number.ensures.sends in
     record {
-      message = c.take-first-message.ensures.first;
-      sends = c.run-cell-number.ensures.sends ∙ ap (λ (q : Place). (reaction M q m).sends) (sym (held_place M cells waiting journal m.receiver at));
-      day = held_event M s.end cells waiting journal m at long (vec_items c.run-cell-number.new.cells) waiting' (vec_items c.push-reserved.new.self)
-          c.run-cell-number.ensures.cells
-          (c.post-all.ensures.items ∙ ap (insert_all key_of (within s.end _)) c.take-first-message.ensures.rest ∙ ap (λ (l : List Message). insert_all key_of (within s.end l) (rest waiting)) sent)
-          c.push-reserved.ensures.items;
+      message = c.take_first-message.ensures.first;
+      sends = c.run_cell-number.ensures.sends ∙ ap (λ (q : Place). (reaction M q m).sends) (sym (held_place M cells waiting journal m.receiver at));
+      day = held_event M s.end cells waiting journal m at long (vec_items c.run_cell-number.new.cells) waiting' (vec_items c.push_reserved.new.self)
+          c.run_cell-number.ensures.cells
+          (c.post_all.ensures.items ∙ ap (insert_all key_of (within s.end _)) c.take_first-message.ensures.rest ∙ ap (λ (l : List Message). insert_all key_of (within s.end l) (rest waiting)) sent)
+          c.push_reserved.ensures.items;
       same = (refl, refl, refl);
     }

@@ -9,18 +9,18 @@ use Rattle.slot.proofs.Laws.{strictly}
 use Rattle.slot.proofs.Holds.{in_order_sorted}
 use Rattle.heap_calendar.proofs.calendar_impl.HeapCalendarCalendar.erase.Goals as goal
 
-pub erase-back-self-requires : goal.erase-back-self-requires
-erase-back-self-requires c =
+pub erase_back-self-requires : goal.erase_back-self-requires
+erase_back-self-requires c =
     let s = c.args.self.now in
-    let e : c.as-slice.result.now ≡ ranked earlier (heap_items s.heap) = c.as-slice.ensures.value ∙ c.pop-all.ensures.out in
-    let n : length c.as-slice.result.now ≤ 512 = omega (arith, ap length e, length_ranked earlier strictly (heap_items s.heap), s.heap.«data».ok.0, s.short) in
-    record { none = c.pop-all.ensures.heap; room = (omega (arith, c.pop-all.ensures.caps.0, s.roomy), n); sorted = subst (λ l. Sorted key_of_held (bares l)) (sym e) (in_order_sorted (heap_items s.heap)) }
+    let e : c.as_slice.result.now ≡ ranked earlier (heap_items s.heap) = c.as_slice.ensures.value ∙ c.pop_all.ensures.out in
+    let n : length c.as_slice.result.now ≤ 512 = omega (arith, ap length e, length_ranked earlier strictly (heap_items s.heap), s.heap.«data».ok.0, s.short) in
+    record { none = c.pop_all.ensures.heap; room = (omega (arith, c.pop_all.ensures.caps.0, s.roomy), n); sorted = subst (λ l. Sorted key_of_held (bares l)) (sym e) (in_order_sorted (heap_items s.heap)) }
 
-pub invariant-of-self : goal.invariant-of-self
-invariant-of-self c =
+pub invariant_of-self : goal.invariant_of-self
+invariant_of-self c =
     let s = c.args.self.now in
-    let e : c.as-slice.result.now ≡ ranked earlier (heap_items s.heap) = c.as-slice.ensures.value ∙ c.pop-all.ensures.out in
-    let n : length c.as-slice.result.now ≤ 512 = omega (arith, ap length e, length_ranked earlier strictly (heap_items s.heap), s.heap.«data».ok.0, s.short) in
-    let a = c.erase-back-self.ensures.sound in
-    let l = c.erase-back-self.ensures.len in
-    (omega (arith, c.erase-back-self.ensures.cap, c.pop-all.ensures.caps.0, s.roomy), (omega (arith, c.pop-all.ensures.caps.1, c.clear.ensures.capacity, s.roomier), (omega (arith, l.0, l.1), (s.few, (omega (arith, l.1), (a.0, (a.1, (a.2, tt))))))))
+    let e : c.as_slice.result.now ≡ ranked earlier (heap_items s.heap) = c.as_slice.ensures.value ∙ c.pop_all.ensures.out in
+    let n : length c.as_slice.result.now ≤ 512 = omega (arith, ap length e, length_ranked earlier strictly (heap_items s.heap), s.heap.«data».ok.0, s.short) in
+    let a = c.erase_back-self.ensures.sound in
+    let l = c.erase_back-self.ensures.len in
+    (omega (arith, c.erase_back-self.ensures.cap, c.pop_all.ensures.caps.0, s.roomy), (omega (arith, c.pop_all.ensures.caps.1, c.clear.ensures.capacity, s.roomier), (omega (arith, l.0, l.1), (s.few, (omega (arith, l.1), (a.0, (a.1, (a.2, tt))))))))

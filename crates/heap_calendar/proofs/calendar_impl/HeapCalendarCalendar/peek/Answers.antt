@@ -11,5 +11,5 @@ use Rattle.heap_calendar.proofs.calendar_impl.HeapCalendarCalendar.peek.Goals as
 
 pub returns : goal.returns
 returns c =
-    c.plain.ensures ∙ ap (option_map bare) (c.nth.ensures (subst (λ l. steady (ranked earlier l) ≡ true) (sym c.as-slice.ensures.value) c.args.self.now.apart) ∙ ap (λ l. at (filter (passes (Waiting c.args.v)) (ranked earlier l)) c.args.i) c.as-slice.ensures.value)
+    c.plain.ensures ∙ ap (option_map bare) (c.nth.ensures (subst (λ l. steady (ranked earlier l) ≡ true) (sym c.as_slice.ensures.value) c.args.self.now.apart) ∙ ap (λ l. at (filter (passes (Waiting c.args.v)) (ranked earlier l)) c.args.i) c.as_slice.ensures.value)
     ∙ peeks (heap_items c.args.self.now.heap) c.args.v c.args.i

@@ -10,24 +10,24 @@ use Rattle.slot.proofs.Holds.{in_order_sorted}
 use Rattle.heap_calendar.proofs.Steps.{sound_moved}
 use Rattle.heap_calendar.proofs.calendar_impl.HeapCalendarCalendar.spread.Goals as goal
 
-pub spread-back-requires : goal.spread-back-requires
-spread-back-requires c =
+pub spread_back-requires : goal.spread_back-requires
+spread_back-requires c =
     let s = c.args.self.now in
-    let e : c.as-slice.result.now ≡ ranked earlier (heap_items s.heap) = c.as-slice.ensures.value ∙ c.pop-all.ensures.out in
-    let n : length c.as-slice.result.now ≤ 512 = omega (arith, ap length e, length_ranked earlier strictly (heap_items s.heap), s.heap.«data».ok.0, s.short) in
-    record { none = c.pop-all.ensures.heap; room = (omega (arith, c.pop-all.ensures.caps.0, s.roomy), n); sorted = subst (λ l. Sorted key_of_held (bares l)) (sym e) (in_order_sorted (heap_items s.heap)) }
+    let e : c.as_slice.result.now ≡ ranked earlier (heap_items s.heap) = c.as_slice.ensures.value ∙ c.pop_all.ensures.out in
+    let n : length c.as_slice.result.now ≤ 512 = omega (arith, ap length e, length_ranked earlier strictly (heap_items s.heap), s.heap.«data».ok.0, s.short) in
+    record { none = c.pop_all.ensures.heap; room = (omega (arith, c.pop_all.ensures.caps.0, s.roomy), n); sorted = subst (λ l. Sorted key_of_held (bares l)) (sym e) (in_order_sorted (heap_items s.heap)) }
 
-pub overflow-cast-self : goal.overflow-cast-self
-overflow-cast-self c =
+pub overflow_cast-self : goal.overflow_cast-self
+overflow_cast-self c =
     let s = c.args.self.now in
-    let e = c.as-slice.ensures.value ∙ c.pop-all.ensures.out in
-    omega (arith, ap length e, length_ranked earlier strictly (heap_items s.heap), s.heap.«data».ok.0, s.short, c.len.ensures, c.as-slice.ensures.len)
+    let e = c.as_slice.ensures.value ∙ c.pop_all.ensures.out in
+    omega (arith, ap length e, length_ranked earlier strictly (heap_items s.heap), s.heap.«data».ok.0, s.short, c.len.ensures, c.as_slice.ensures.len)
 
-pub invariant-of-self : goal.invariant-of-self
-invariant-of-self c =
+pub invariant_of-self : goal.invariant_of-self
+invariant_of-self c =
     let s = c.args.self.now in
-    let e : c.as-slice.result.now ≡ ranked earlier (heap_items s.heap) = c.as-slice.ensures.value ∙ c.pop-all.ensures.out in
-    let n : length c.as-slice.result.now ≤ 512 = omega (arith, ap length e, length_ranked earlier strictly (heap_items s.heap), s.heap.«data».ok.0, s.short) in
-    let m : c.len.result ≡ length c.as-slice.result.now = c.len.ensures ∙ sym c.as-slice.ensures.len in
-    let a = sound_moved _ _ _ _ m refl c.spread-back.ensures.sound in
-    (omega (arith, c.spread-back.ensures.cap, c.pop-all.ensures.caps.0, s.roomy), (omega (arith, c.pop-all.ensures.caps.1, c.clear.ensures.capacity, s.roomier), (omega (arith, c.spread-back.ensures.len), (s.few, (omega arith, (a.0, (a.1, (a.2, tt))))))))
+    let e : c.as_slice.result.now ≡ ranked earlier (heap_items s.heap) = c.as_slice.ensures.value ∙ c.pop_all.ensures.out in
+    let n : length c.as_slice.result.now ≤ 512 = omega (arith, ap length e, length_ranked earlier strictly (heap_items s.heap), s.heap.«data».ok.0, s.short) in
+    let m : c.len.result ≡ length c.as_slice.result.now = c.len.ensures ∙ sym c.as_slice.ensures.len in
+    let a = sound_moved _ _ _ _ m refl c.spread_back.ensures.sound in
+    (omega (arith, c.spread_back.ensures.cap, c.pop_all.ensures.caps.0, s.roomy), (omega (arith, c.pop_all.ensures.caps.1, c.clear.ensures.capacity, s.roomier), (omega (arith, c.spread_back.ensures.len), (s.few, (omega arith, (a.0, (a.1, (a.2, tt))))))))

@@ -10,8 +10,8 @@ shorter : {X : Type 0} (r : Option X) (m n : ℕ) → MatchOption r ((m ≡ 0) �
 shorter None m n h k = omega arith
 shorter (Some x) m n h k = omega arith
 
-pub invariant-of-self : goal.invariant-of-self
-invariant-of-self c =
+pub invariant_of-self : goal.invariant_of-self
+invariant_of-self c =
     let s = c.args.self.now in
     let a = sound_pop c.pop-s.result _ _ s.next c.pop-s.ensures.items (s.young, s.built, s.apart) in
     (omega (arith, c.pop-s.ensures.capacity, s.roomy), (s.roomier, (shorter c.pop-s.result _ _ c.pop-s.ensures.len s.short, (s.few, (s.aged, (a.0, (a.1, (a.2, tt))))))))
