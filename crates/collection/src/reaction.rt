@@ -6,7 +6,7 @@ ghost use Rattle.collection.specs.Reactions.{react_kept};
 ghost use Rattle.std.proofs.Common.{rules, arith};
 
 use super::{Collection, DAIRY, LOADED, MILKED, UNLOAD};
-use model::{Arrival, Model, Sends, Words};
+use model::{Arrival, Model as DayModel, Sends, Words};
 
 // What any place does with a message that asks nothing of it: litres are kept apart in word 7.
 pub(super) fn ignore(words: &mut Words, arrival: Arrival) -> Sends
@@ -19,7 +19,7 @@ pub(super) fn ignore(words: &mut Words, arrival: Arrival) -> Sends
     Sends::Nothing
 }
 
-pub impl Model for Collection as CollectionModel {
+impl DayModel for Collection {
     ghost meaning = { λ m. meaning_of m.farms m.tankers };
 
     ghost counted = { first_of (Prim.search rules, Prim.grind (arith, Self.row.coded.inj)) };

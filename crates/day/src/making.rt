@@ -68,7 +68,7 @@ fn starting_list(heap: Global, capacity: u16, starts: &[Start]) -> Result<Vec<Me
 
 // The cells of all places as the day begins.
 fn starting_cells<M: Model>(heap: Global, model: &M) -> Result<Vec<Place>, AllocError>
-    ensures { IfOk result (λ v. (vec_len v ≡ 32) × ((p : ℕ) → p < 32 → slice_index_or v.items p blank_place ≡ starting_place (meaning model.now) p)) }
+    ensures { IfOk result (λ v. (vec_len v ≡ 32) × ((p : ℕ) → p < 32 → slice_index_or v.items p blank_place ≡ starting_place (M.meaning model.now) p)) }
 {
     let mut cells = Vec::with_capacity(heap, CELLS)?;
     for p in 0..32u8 {
@@ -90,11 +90,11 @@ impl<M: Model + Drop> LoneDay<M> {
         starts: &[Start],
         end: u32,
     ) -> Result<LoneDay<M>, DayFault>
-        ensures told { MatchResult result (λ _. load_fault_of (meaning model).places capacity end starts.now ≡ None) (λ f. f ≡ unwrap_or (load_fault_of (meaning model).places capacity end starts.now) Memory) }
-        ensures day { IfOk result (λ d. day_of (meaning model) d ≡ starting (meaning model) starts.now) }
+        ensures told { MatchResult result (λ _. load_fault_of (M.meaning model).places capacity end starts.now ≡ None) (λ f. f ≡ unwrap_or (load_fault_of (M.meaning model).places capacity end starts.now) Memory) }
+        ensures day { IfOk result (λ d. day_of (M.meaning model) d ≡ starting (M.meaning model) starts.now) }
         ensures kept { IfOk result (λ d. (d.model ≡ model) × (d.end ≡ end) × (d.capacity ≡ capacity)) }
-        ensures alone { IfOk result (λ d. (deeds : List Deed) → Alone (meaning model) end starts.now (given (meaning model) end deeds (day_of (meaning model) d)) (done (meaning model) end deeds (day_of (meaning model) d))) }
-        ensures tidy { IfOk result (λ d. (deeds : List Deed) → Tidy (meaning model) (done (meaning model) end deeds (day_of (meaning model) d))) }
+        ensures alone { IfOk result (λ d. (deeds : List Deed) → Alone (M.meaning model) end starts.now (given (M.meaning model) end deeds (day_of (M.meaning model) d)) (done (M.meaning model) end deeds (day_of (M.meaning model) d))) }
+        ensures tidy { IfOk result (λ d. (deeds : List Deed) → Tidy (M.meaning model) (done (M.meaning model) end deeds (day_of (M.meaning model) d))) }
     {
         if let Some(fault) = load_fault(model.places(), capacity, end, starts) {
             return Err(fault);

@@ -12,14 +12,14 @@ use model::Model;
 impl<M: Model> LoneDay<M> {
     // How many events have run.
     pub fn events(&self) -> usize
-        ensures { result ≡ length (day_of (meaning self.now.model) self.now).journal }
+        ensures { result ≡ length (day_of (M.meaning self.now.model) self.now).journal }
     {
         self.journal.len()
     }
 
     // Entry i of the journal, from 0.
     pub fn entry(&self, i: usize) -> Result<Message, DayFault>
-        ensures { result ≡ entry_answer (day_of (meaning self.now.model) self.now) i }
+        ensures { result ≡ entry_answer (day_of (M.meaning self.now.model) self.now) i }
     {
         match self.journal.get(i) {
             Some(m) => Ok(*m),
@@ -29,14 +29,14 @@ impl<M: Model> LoneDay<M> {
 
     // What has run, oldest first.
     pub fn journal(&self) -> &[Message]
-        ensures { result.now ≡ (day_of (meaning self.now.model) self.now).journal }
+        ensures { result.now ≡ (day_of (M.meaning self.now.model) self.now).journal }
     {
         self.journal.as_slice()
     }
 
     // Words, order and send count of a place.
     pub fn place(&self, p: u8) -> Result<Place, DayFault>
-        ensures { result ≡ place_answer (meaning self.now.model) (day_of (meaning self.now.model) self.now) p }
+        ensures { result ≡ place_answer (M.meaning self.now.model) (day_of (M.meaning self.now.model) self.now) p }
     {
         if p >= self.model.places() {
             return Err(DayFault::Place);
@@ -46,7 +46,7 @@ impl<M: Model> LoneDay<M> {
 
     // The waiting messages, in the order of their keys.
     pub fn waiting(&self) -> &[Message]
-        ensures { result.now ≡ (day_of (meaning self.now.model) self.now).waiting }
+        ensures { result.now ≡ (day_of (M.meaning self.now.model) self.now).waiting }
     {
         self.waiting.as_slice()
     }

@@ -10,7 +10,7 @@ ghost use Rattle.day.specs.Tidy.{Tidy};
 ghost use Rattle.day.specs.Faults.{event_fault_of};
 ghost use Rattle.day.specs.Blank.{blank_place};
 ghost use Rattle.day.specs.Held.{day_of};
-ghost use Rattle.day.specs.Day.{Day, event_at, event as nextDay, ordered, arrival_of, stamp, stamped, within, reaction, place_after, sent_by};
+ghost use Rattle.day.specs.Day.{Day, event_at, event as next_day, ordered, arrival_of, stamp, stamped, within, reaction, place_after, sent_by};
 
 use crate::fault::DayFault;
 use crate::lone::{ENTRIES, LoneDay};
@@ -32,10 +32,10 @@ fn arrival(m: &Message) -> Arrival
 // The place runs m: its words change, and what it sends is counted.
 fn run_at<M: Model>(model: &M, place: &mut Place, m: &Message) -> Sends
     requires { place.old.sent + 2 < 2 ^ 32 }
-    ensures place { place.new ≡ place_after (meaning model.now) place.old m.now }
-    ensures sends { result ≡ (reaction (meaning model.now) place.old m.now).sends }
-    ensures lawful { Lawful (meaning model.now).places result }
-    ensures few { (meaning model.now).places ≤ 32 }
+    ensures place { place.new ≡ place_after (M.meaning model.now) place.old m.now }
+    ensures sends { result ≡ (reaction (M.meaning model.now) place.old m.now).sends }
+    ensures lawful { Lawful (M.meaning model.now).places result }
+    ensures few { (M.meaning model.now).places ≤ 32 }
 {
     let sends = model.react(m.receiver, place.order, &mut place.words, arrival(m));
     place.sent += count(&sends);
@@ -46,10 +46,10 @@ fn run_at<M: Model>(model: &M, place: &mut Place, m: &Message) -> Sends
 fn run_cell<M: Model>(model: &M, cells: &mut Vec<Place>, m: &Message) -> (u32, Sends)
     requires within { m.now.receiver < vec_len cells.old }
     requires few { (get_or cells.old.items m.now.receiver blank_place).sent + 2 < 2 ^ 32 }
-    ensures cells { cells.new.items ≡ slice_set cells.old.items m.now.receiver (place_after (meaning model.now) (slice_index_or cells.old.items m.now.receiver blank_place) m.now) }
+    ensures cells { cells.new.items ≡ slice_set cells.old.items m.now.receiver (place_after (M.meaning model.now) (slice_index_or cells.old.items m.now.receiver blank_place) m.now) }
     ensures len { vec_len cells.new ≡ vec_len cells.old }
     ensures number { result.0 ≡ (get_or cells.old.items m.now.receiver blank_place).sent }
-    ensures sends { result.1 ≡ (reaction (meaning model.now) (slice_index_or cells.old.items m.now.receiver blank_place) m.now).sends }
+    ensures sends { result.1 ≡ (reaction (M.meaning model.now) (slice_index_or cells.old.items m.now.receiver blank_place) m.now).sends }
     ensures lawful { Lawful 32 result.1 }
 {
     let at = m.receiver as usize;
@@ -146,8 +146,8 @@ impl<M: Model> LoneDay<M> {
         requires room { vec_len self.old.waiting + 1 ≤ self.old.capacity }
         requires entries { vec_len self.old.journal < 2048 }
         ensures message { first self.old.waiting.items ≡ Some result.message }
-        ensures sends { result.sends ≡ (reaction (meaning self.old.model) ((day_of (meaning self.old.model) self.old).place result.message.receiver) result.message).sends }
-        ensures day { day_of (meaning self.old.model) self.new ≡ event_at (meaning self.old.model) self.old.end (day_of (meaning self.old.model) self.old) (Some result.message) }
+        ensures sends { result.sends ≡ (reaction (M.meaning self.old.model) ((day_of (M.meaning self.old.model) self.old).place result.message.receiver) result.message).sends }
+        ensures day { day_of (M.meaning self.old.model) self.new ≡ event_at (M.meaning self.old.model) self.old.end (day_of (M.meaning self.old.model) self.old) (Some result.message) }
         ensures same { (self.new.model ≡ self.old.model) × (self.new.end ≡ self.old.end) × (self.new.capacity ≡ self.old.capacity) }
     {
         let message = take_first(&mut self.waiting);
@@ -159,12 +159,12 @@ impl<M: Model> LoneDay<M> {
 
     // Runs the waiting message with the smallest key; tells nothing where none waits.
     pub fn event(&mut self) -> Result<Option<Ran>, DayFault>
-        ensures told { result ≡ event_answer (meaning self.old.model) self.old.capacity (day_of (meaning self.old.model) self.old) }
-        ensures day { day_of (meaning self.old.model) self.new ≡ (if is_ok result then nextDay (meaning self.old.model) self.old.end (day_of (meaning self.old.model) self.old) else day_of (meaning self.old.model) self.old) }
+        ensures told { result ≡ event_answer (M.meaning self.old.model) self.old.capacity (day_of (M.meaning self.old.model) self.old) }
+        ensures day { day_of (M.meaning self.old.model) self.new ≡ (if is_ok result then next_day (M.meaning self.old.model) self.old.end (day_of (M.meaning self.old.model) self.old) else day_of (M.meaning self.old.model) self.old) }
         ensures unchanged { is_ok result ≡ false → self.new ≡ self.old }
         ensures same { (self.new.model ≡ self.old.model) × (self.new.end ≡ self.old.end) × (self.new.capacity ≡ self.old.capacity) }
-        ensures alone { (starts : List Start) (orders : List Order) → Alone (meaning self.old.model) self.old.end starts orders (day_of (meaning self.old.model) self.old) → Alone (meaning self.old.model) self.old.end starts orders (day_of (meaning self.old.model) self.new) }
-        ensures tidy { Tidy (meaning self.old.model) (day_of (meaning self.old.model) self.old) → Tidy (meaning self.old.model) (day_of (meaning self.old.model) self.new) }
+        ensures alone { (starts : List Start) (orders : List Order) → Alone (M.meaning self.old.model) self.old.end starts orders (day_of (M.meaning self.old.model) self.old) → Alone (M.meaning self.old.model) self.old.end starts orders (day_of (M.meaning self.old.model) self.new) }
+        ensures tidy { Tidy (M.meaning self.old.model) (day_of (M.meaning self.old.model) self.old) → Tidy (M.meaning self.old.model) (day_of (M.meaning self.old.model) self.new) }
     {
         if self.waiting.is_empty() {
             return Ok(None);
@@ -177,12 +177,12 @@ impl<M: Model> LoneDay<M> {
 
     // An order stands at the place from now on.
     pub fn order(&mut self, place: u8, value: u32) -> Result<(), DayFault>
-        ensures told { result ≡ order_answer (meaning self.old.model) place }
-        ensures day { day_of (meaning self.old.model) self.new ≡ (if is_ok result then ordered (day_of (meaning self.old.model) self.old) place value else day_of (meaning self.old.model) self.old) }
+        ensures told { result ≡ order_answer (M.meaning self.old.model) place }
+        ensures day { day_of (M.meaning self.old.model) self.new ≡ (if is_ok result then ordered (day_of (M.meaning self.old.model) self.old) place value else day_of (M.meaning self.old.model) self.old) }
         ensures unchanged { is_ok result ≡ false → self.new ≡ self.old }
         ensures same { (self.new.model ≡ self.old.model) × (self.new.end ≡ self.old.end) × (self.new.capacity ≡ self.old.capacity) }
-        ensures alone { is_ok result ≡ true → (starts : List Start) (orders : List Order) → Alone (meaning self.old.model) self.old.end starts orders (day_of (meaning self.old.model) self.old) → Alone (meaning self.old.model) self.old.end starts (orders ++ order_now (day_of (meaning self.old.model) self.old) place value ∷ []) (day_of (meaning self.old.model) self.new) }
-        ensures tidy { Tidy (meaning self.old.model) (day_of (meaning self.old.model) self.old) → Tidy (meaning self.old.model) (day_of (meaning self.old.model) self.new) }
+        ensures alone { is_ok result ≡ true → (starts : List Start) (orders : List Order) → Alone (M.meaning self.old.model) self.old.end starts orders (day_of (M.meaning self.old.model) self.old) → Alone (M.meaning self.old.model) self.old.end starts (orders ++ order_now (day_of (M.meaning self.old.model) self.old) place value ∷ []) (day_of (M.meaning self.old.model) self.new) }
+        ensures tidy { Tidy (M.meaning self.old.model) (day_of (M.meaning self.old.model) self.old) → Tidy (M.meaning self.old.model) (day_of (M.meaning self.old.model) self.new) }
     {
         if place >= self.model.places() {
             return Err(DayFault::Place);

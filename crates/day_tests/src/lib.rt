@@ -3,7 +3,7 @@
 
 #[cfg(test)]
 mod tests {
-    use collection::{Collection, CollectionModel, FARTHEST, MILKED};
+    use collection::{Collection, FARTHEST, MILKED};
     use day::{DayFault, LoneDay};
     use event::{Message, Start};
     use refusal::{Layer, Refusal};

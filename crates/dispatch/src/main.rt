@@ -5,7 +5,7 @@ ghost use Rattle.std.specs.Prelude.{◌≡◌};
 ghost use Rattle.dispatch.specs.Position.{position_of};
 
 use anyhow::anyhow;
-use collection::{Collection, CollectionModel};
+use collection::Collection;
 use day::{DayFault, LoneDay};
 use dayfile::Plan;
 use model::ModelFault;

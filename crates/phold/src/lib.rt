@@ -8,7 +8,7 @@ ghost use Rattle.phold.specs.Rules.{allowed, receiver_of, delay_of, meaning_of};
 ghost use Rattle.phold.specs.Passing.{react_lawful};
 ghost use Rattle.std.proofs.Common.{rules, arith};
 
-use model::{Arrival, Model, ModelFault, Sends, Sent, Words};
+use model::{Arrival, Model as DayModel, ModelFault, Sends, Sent, Words};
 use streams::{MODULUS, draw, multiplier, times};
 
 #[cfg(test)]
@@ -59,7 +59,7 @@ fn delay(order: u32, drawn: u32) -> u32
     1 + drawn % (100 * (1 + order % 256))
 }
 
-pub impl Model for Phold as PholdModel {
+impl DayModel for Phold {
     ghost meaning = { λ m. meaning_of m.places m.seed m.replication };
 
     ghost counted = { first_of (Prim.search rules, Prim.grind (arith, Self.row.coded.inj)) };

@@ -7,7 +7,7 @@ ghost use Rattle.collection.specs.Rules.{meaning_of};
 ghost use Rattle.day.specs.Held.{day_of};
 ghost use Rattle.report.specs.Summary.{some, is_milking_message, is_pumping_message, is_unloading_message, is_sent, not_visited, later_unloading_of, last_unloading_of, all_sent_of, lost, left_facts, unvisited_up_to, facts_of};
 
-use collection::{Collection, CollectionModel, DAIRY, MILKED, PUMP, UNLOAD};
+use collection::{Collection, DAIRY, MILKED, PUMP, UNLOAD};
 use day::{LoneDay, Place};
 use event::{Message, START_SENDER};
 use std::alloc::{AllocError, Global};

@@ -10,10 +10,10 @@ use Rattle.dayfile.proofs.plan.read.Goals as goal
 
 pub returns-in_err-take : goal.returns-in_err-take
 returns-in_err-take c =
-    let out = err_from_is_err_and c.from-residual.result c.from-residual.ensures.1 in
+    let out = err_from_is_err_and c.from_residual.result c.from_residual.ensures.1 in
     let some = eqb-false _ 0 (sym c.loop-rest-test.ensures) in
     let is =
-    stopped c.args.text.now c.loop-rest.n (told_by c.loop-rest.draft) c.loop-rest.rest.now c.loop-rest.invariant.0 c.from-residual.result
+    stopped c.args.text.now c.loop-rest.n (told_by c.loop-rest.draft) c.loop-rest.rest.now c.loop-rest.invariant.0 c.from_residual.result
     c.first_line.result.0.now c.first_line.result.1.now c.in_err-take.field-0.0 (c.first_line.ensures.lines (omega arith)) c.in_err-take.ensures
     (out.1 ∙ ap (λ f. Err f) out.2) in
     record { value = is; sound = sound_answer c.args.text.now _ is; back = answered c.args.text.now _ is }

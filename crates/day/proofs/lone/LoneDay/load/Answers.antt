@@ -30,25 +30,16 @@ invariant_of-result g c =
     let begun = c.in_ok-cells.ensures in
     let listed = c.in_ok-waiting.ensures in
     let empty = c.in_ok-journal.ensures in
-    let long : length (vec_items c.in_ok-cells.cells) ≡ 32 = omega (arith, c.in_ok-cells.cells.ok.0, begun.0) in (
-      begun.0,
-      (
-        (listed.1, empty.capacity),
-        (
-          fits.0,
-          (
-            omega (arith, empty.len),
-            (
-              starts_wait (λ s. s.time ≤ c.args.end) (λ m. m.time ≤ c.args.end) (λ n s h. h) (omega arith) starts waiting listed.0 fits.1.timely,
-              (
-                starts_wait (λ s. s.receiver < c.places.result) (λ m. m.receiver < 32) (λ n s h. omega arith) (omega arith) starts waiting listed.0 fits.1.placed,
-                (λ i. none_sent M (vec_items c.in_ok-cells.cells) long begun.1 _ i, tt),
-              ),
-            ),
-          ),
-        ),
-      ),
-    )
+    let long : length (vec_items c.in_ok-cells.cells) ≡ 32 = omega (arith, c.in_ok-cells.cells.ok.0, begun.0) in
+    record {
+      whole = begun.0;
+      room = (listed.1, empty.capacity);
+      ended = fits.0;
+      short = omega (arith, empty.len);
+      timely = starts_wait (λ s. s.time ≤ c.args.end) (λ m. m.time ≤ c.args.end) (λ n s h. h) (omega arith) starts waiting listed.0 fits.1.timely;
+      placed = starts_wait (λ s. s.receiver < c.places.result) (λ m. m.receiver < 32) (λ n s h. omega arith) (omega arith) starts waiting listed.0 fits.1.placed;
+      counted = λ i. none_sent M (vec_items c.in_ok-cells.cells) long begun.1 _ i;
+    }
 
 pub returns : goal.returns
 returns g c =

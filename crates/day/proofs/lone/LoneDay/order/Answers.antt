@@ -24,7 +24,7 @@ returns g c =
     let is = c.places.ensures in
     let inside : at < M.places = omega arith in
     let long : length (vec_items s.cells) ≡ 32 = omega (arith, s.cells.ok.0, s.whole) in
-    let read : c.index-mut.result.now ≡ get_or (vec_items s.cells) at blank_place = c.index-mut.ensures.value ∙ get_or_default (vec_items s.cells) at _ blank_place (omega arith) in
+    let read : c.index_mut.result.now ≡ get_or (vec_items s.cells) at blank_place = c.index_mut.ensures.value ∙ get_or_default (vec_items s.cells) at _ blank_place (omega arith) in
     let after = held_order M (vec_items s.cells) _ (vec_items s.waiting) (vec_items s.journal) at c.args.value (omega arith) long (ap (λ (q : Place). set (vec_items s.cells) at (ordered_place q c.args.value)) read) in
     record {
       told = sym (cond-true _ _ _ (lt-ltb at M.places inside));

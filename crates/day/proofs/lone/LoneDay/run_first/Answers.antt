@@ -47,25 +47,16 @@ invariant_of-self g c =
     let waits : waiting' ≡ insert_all key_of (within s.end ms) (rest waiting) =
     c.post_all.ensures.items ∙ ap (insert_all key_of (within s.end ms)) c.take_first-message.ensures.rest in
     let grown = still_counted (g.M.Model.meaning s.model) cells m (vec_len s.journal) (omega arith) s.counted in
-    let lenj = c.push_reserved.ensures.len in (
-      c.run_cell-number.ensures.len ∙ s.whole,
-      (
-        (omega (arith, s.room.0, c.post_all.ensures.capacity, c.take_first-message.ensures.capacity), omega (arith, s.room.1, c.push_reserved.ensures.capacity)),
-        (
-          s.ended,
-          (
-            omega (arith, c.requires.entries),
-            (
-              still_timely s.end waiting waiting' ms waits s.timely,
-              (
-                still_placed s.end waiting waiting' ms waits (stamped_receivers 32 m.time m.receiver number (listed sends) c.run_cell-number.ensures.lawful) s.placed,
-                (λ i. let a = grown i in let e = ap (λ (l : List Place). (get_or l i blank_place).sent) c.run_cell-number.ensures.cells in omega arith, tt),
-              ),
-            ),
-          ),
-        ),
-      ),
-    )
+    let lenj = c.push_reserved.ensures.len in
+    record {
+      whole = c.run_cell-number.ensures.len ∙ s.whole;
+      room = (omega (arith, s.room.0, c.post_all.ensures.capacity, c.take_first-message.ensures.capacity), omega (arith, s.room.1, c.push_reserved.ensures.capacity));
+      ended = s.ended;
+      short = omega (arith, c.requires.entries);
+      timely = still_timely s.end waiting waiting' ms waits s.timely;
+      placed = still_placed s.end waiting waiting' ms waits (stamped_receivers 32 m.time m.receiver number (listed sends) c.run_cell-number.ensures.lawful) s.placed;
+      counted = λ i. let a = grown i in let e = ap (λ (l : List Place). (get_or l i blank_place).sent) c.run_cell-number.ensures.cells in omega arith;
+    }
 
 pub returns : goal.returns
 returns g c =
