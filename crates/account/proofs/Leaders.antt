@@ -40,10 +40,10 @@ sets_least n (g ∷ gs) h =
     omega (arith, a, b, d)
 
 -- which of its groups v is least in
-least_in : (among : ℕ → Bool) (alike : ℕ → ℕ → Bool) (v : ℕ) (gs : List (ℕ → Bool)) → All (λ g. (v w : ℕ) → g v ≡ true → g w ≡ (among w && alike v w)) gs
+count_of_least : (among : ℕ → Bool) (alike : ℕ → ℕ → Bool) (v : ℕ) (gs : List (ℕ → Bool)) → All (λ g. (v w : ℕ) → g v ≡ true → g w ≡ (among w && alike v w)) gs
     → count (least_in v) gs ≡ cond (any_below (λ w. among w && alike v w) v) 0 (count (λ g. g v) gs)
-least_in among alike v [] h = cond_both (any_below (λ w. among w && alike v w) v) 0 0 (λ z. 0 ≡ z) (λ _. refl) (λ _. refl)
-least_in among alike v (g ∷ gs) h = go (cases_Bool (g v)) (cases_Bool (any_below (λ w. among w && alike v w) v)) (least_in among alike v gs h.1)
+count_of_least among alike v [] h = cond_both (any_below (λ w. among w && alike v w) v) 0 0 (λ z. 0 ≡ z) (λ _. refl) (λ _. refl)
+count_of_least among alike v (g ∷ gs) h = go (cases_Bool (g v)) (cases_Bool (any_below (λ w. among w && alike v w) v)) (count_of_least among alike v gs h.1)
   where
     b : Bool
     b = any_below (λ w. among w && alike v w) v
@@ -61,6 +61,6 @@ leaders_count n among alike gs h = sets_least n gs h.filled ∙ sum_same _ _ n o
   where
     one : (v : ℕ) → count (least_in v) gs ≡ ind (leads among alike v)
     one v =
-        let a = least_in among alike v gs h.whole in let b = h.once v in
+        let a = count_of_least among alike v gs h.whole in let b = h.once v in
         ⊎_elim (λ (e : among v ≡ true). ⊎_elim (λ (d : any_below (λ w. among w && alike v w) v ≡ true). grind (arith, nat_tests)) (λ (d : any_below (λ w. among w && alike v w) v ≡ false). grind (arith, nat_tests)) (cases_Bool (any_below (λ w. among w && alike v w) v)))
         (λ (e : among v ≡ false). grind (arith, nat_tests)) (cases_Bool (among v))

@@ -9,7 +9,7 @@ use Rattle.slot.specs.Rank.{ranked, ins}
 use Rattle.slot.proofs.Ranks.{ins_front, all_ranked}
 use Rattle.slot.specs.declared.Slot.{Slot}
 use Rattle.slot.specs.Slots.{earlier}
-use Rattle.slot.proofs.Laws.{strictly}
+use Rattle.slot.specs.Laws.{strictly}
 use Rattle.slot.proofs.Picks.{never_self, through, at_zero}
 use Rattle.slot.proofs.Puts.{first_least}
 use Rattle.heap_calendar.specs.Totals.{Heapy, blank}

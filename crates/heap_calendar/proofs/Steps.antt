@@ -17,7 +17,7 @@ use Rattle.slot.proofs.Ranks.{ranked_shuffled, ins_front, all_ranked}
 use Rattle.slot.specs.declared.Slot.{Slot}
 use Rattle.slot.specs.Slots.{earlier, turned, steady, Young, bare, bares, in_order}
 use Rattle.event.specs.Lists.{rest, first as head}
-use Rattle.slot.proofs.Laws.{strictly}
+use Rattle.slot.specs.Laws.{strictly}
 use Rattle.slot.proofs.Holds.{steady_push, steady_tail}
 use Rattle.heap_calendar.specs.Totals.{Heapy, Sound, blank}
 

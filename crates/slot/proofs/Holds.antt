@@ -19,7 +19,7 @@ use Rattle.slot.specs.declared.Slot.{Slot}
 use Rattle.slot.specs.declared.pick.Pick.TheVariants.{Waiting, Like}
 use Rattle.slot.specs.Slots.{key_of_slot, earlier, ahead, steady, bare, bares, in_order, Young}
 use Rattle.slot.specs.Passes.{passes}
-use Rattle.slot.proofs.Laws.{strictly, ahead_earlier, younger, behind, before_ahead, not_before}
+use Rattle.slot.specs.Laws.{strictly, ahead_earlier, younger, behind, before_ahead, not_before}
 use Rattle.slot.proofs.Picks.{Climbs}
 use Rattle.slot.proofs.Nths.{climbs_from, steady_from}
 

@@ -1,5 +1,4 @@
 pub mod Ranks
-pub mod Laws
 pub mod Picks
 pub mod Nths
 pub mod Holds

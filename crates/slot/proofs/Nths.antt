@@ -12,7 +12,7 @@ use Rattle.slot.specs.declared.Slot.{Slot}
 use Rattle.slot.specs.declared.pick.Pick.{Pick}
 use Rattle.slot.specs.Slots.{earlier, ahead, leads_all, steady, sooner}
 use Rattle.slot.specs.Passes.{passes, beyond, admits}
-use Rattle.slot.proofs.Laws.{strictly, ahead_earlier}
+use Rattle.slot.specs.Laws.{strictly, ahead_earlier}
 use Rattle.slot.proofs.Picks.{Climbs, climbs_kept, kept_both, kept_same, first_yes, first_no, next_at, at_none, at_zero}
 
 pub step_yes : (p : Slot → Bool) (xs : List Slot) (i : ℕ) (d : Slot) (b b' : Option Slot) → i < length xs → b ≡ head (filter p (ranked earlier (take i xs)))
@@ -25,9 +25,9 @@ pub step_no : (p : Slot → Bool) (xs : List Slot) (i : ℕ) (d : Slot) (b b' : 
 step_no p xs i d b b' h inv e f =
     f ∙ inv ∙ sym (first_no earlier strictly p (take i xs) (get_or xs i d) e) ∙ sym (ap (λ l. head (filter p (ranked earlier l))) (take_more xs i d h))
 
-pub leads_all : (x : Slot) (l : List Slot) → leads_all x l ≡ true → All (λ y. ahead x y ≡ true) l
-leads_all x [] h = tt
-leads_all x (y ∷ l) h = let p = and_parts (ahead x y) (leads_all x l) h in (p.0, leads_all x l p.1)
+pub all_from_leads : (x : Slot) (l : List Slot) → leads_all x l ≡ true → All (λ y. ahead x y ≡ true) l
+all_from_leads x [] h = tt
+all_from_leads x (y ∷ l) h = let p = and_parts (ahead x y) (leads_all x l) h in (p.0, all_from_leads x l p.1)
 
 pub all_leads : (x : Slot) (l : List Slot) → All (λ y. ahead x y ≡ true) l → leads_all x l ≡ true
 all_leads x [] h = refl
@@ -36,7 +36,7 @@ all_leads x (y ∷ l) h = and_from (ahead x y) (leads_all x l) h.0 (all_leads x 
 pub climbs_from : (l : List Slot) → steady l ≡ true → Climbs ahead l
 unfolding steady
 climbs_from [] h = tt
-climbs_from (x ∷ l) h = let p = and_parts (leads_all x l) (steady l) h in (leads_all x l p.0, climbs_from l p.1)
+climbs_from (x ∷ l) h = let p = and_parts (leads_all x l) (steady l) h in (all_from_leads x l p.0, climbs_from l p.1)
 
 pub steady_from : (l : List Slot) → Climbs ahead l → steady l ≡ true
 unfolding steady

@@ -1,8 +1,7 @@
 // The order of slots: by key, and then the older put first.
 ghost use Rattle.std.specs.Prelude.{◌≡◌, Some, refl};
 ghost use Rattle.slot.specs.Slots.{earlier, turned};
-ghost use Rattle.std.specs.Cmp.Rules.{comparing};
-ghost use Rattle.std.proofs.Common.{rules};
+ghost use Rattle.slot.specs.Laws.{turned_total, turned_ties};
 ghost use Rattle.std.specs.Cmp.{partial_order_from_agreeing_total};
 
 use crate::Slot;
@@ -35,7 +34,7 @@ pub fn comes_before(a: &Slot, b: &Slot) -> bool
 impl PartialOrd for Slot {
     ghost partial_cmp = { λ x y. Some (turned x y) };
 
-    ghost laws = { partial_order_from_agreeing_total (λ x y. turned x y) (Prim.search (comparing, rules)) (λ _ _. refl) (Prim.search (comparing, rules)) };
+    ghost laws = { partial_order_from_agreeing_total turned turned_total (λ _ _. refl) turned_ties };
 
     fn partial_cmp(&self, other: &Slot) -> Option<Ordering> {
         Some(self.cmp(other))
@@ -46,11 +45,11 @@ impl PartialOrd for Slot {
 impl Ord for Slot {
     ghost cmp = { λ x y. turned x y };
 
-    ghost total = { Prim.search (comparing, rules) };
+    ghost total = { turned_total };
 
-    ghost matches_partial_cmp = { Prim.search (comparing, rules) };
+    ghost matches_partial_cmp = { λ _ _. refl };
 
-    ghost matches_eq = { Prim.search (comparing, rules) };
+    ghost matches_eq = { turned_ties };
 
     fn cmp(&self, other: &Slot) -> Ordering {
         if comes_before(self, other) {

@@ -1,6 +1,6 @@
 -- The earlier child of the root is the second.
 use Rattle.std.proofs.Common.{◌≡◌, get_or, sym, refl, ap, ◌∙◌, arith}
-use Rattle.slot.proofs.Laws.{strictly}
+use Rattle.slot.specs.Laws.{strictly}
 use Rattle.slot.proofs.Picks.{never_self}
 use Rattle.slot.specs.Slots.{earlier}
 use Rattle.heap_calendar.specs.Totals.{blank}

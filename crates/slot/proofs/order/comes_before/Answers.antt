@@ -4,7 +4,7 @@ use Rattle.event.specs.declared.Key.{Key}
 use Rattle.event.specs.Keys.{before}
 use Rattle.event.proofs.Orders.{then_differ, then_equal}
 use Rattle.slot.specs.Slots.{key_of_slot, earlier}
-use Rattle.slot.proofs.Laws.{by_first, by_later, by_rest}
+use Rattle.slot.specs.Laws.{by_first, by_later, by_rest}
 use Rattle.slot.proofs.order.comes_before.Goals as goal
 
 -- the test, of the keys that were compared

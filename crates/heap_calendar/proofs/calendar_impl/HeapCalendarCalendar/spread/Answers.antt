@@ -5,7 +5,7 @@ use Rattle.slot.proofs.Ranks.{length_ranked}
 use Rattle.event.specs.Lists.{Sorted}
 use Rattle.calendar.specs.Calls.{key_of_held}
 use Rattle.slot.specs.Slots.{earlier, bares}
-use Rattle.slot.proofs.Laws.{strictly}
+use Rattle.slot.specs.Laws.{strictly}
 use Rattle.slot.proofs.Holds.{in_order_sorted}
 use Rattle.heap_calendar.proofs.Steps.{sound_moved}
 use Rattle.heap_calendar.proofs.calendar_impl.HeapCalendarCalendar.spread.Goals as goal

@@ -1,5 +1,5 @@
 -- The order of slots is strict and total, and how it goes with the order of keys.
-use Rattle.std.proofs.Common.{◌≡◌, ℕ, ◌<◌, Bool, true, false, cond, ◌&&◌, ◌||◌, eqb, ltb, ◌⊎◌, sym, refl, ap, ◌∙◌, subst, inl, inr, ⊎_elim, arith}
+use Rattle.std.proofs.Common.{◌≡◌, ℕ, ◌<◌, Bool, true, false, cond, ◌&&◌, ◌||◌, eqb, ltb, ◌⊎◌, sym, refl, ap, ◌∙◌, subst, inl, inr, ⊎_elim, arith, Ordering, Less, Equal, Greater}
 use Rattle.std.proofs.lemmas.Bool.{cases_Bool, both_ways}
 use Rattle.std.proofs.lemmas.Bool.Decides.{nat_tests}
 use Rattle.event.specs.declared.Key.{Key}
@@ -7,7 +7,10 @@ use Rattle.event.specs.Keys.{before, same, then}
 use Rattle.event.proofs.Orders.{never, chain, apart, through, not_back, before_ne, same_true, same_from, same_not, same_refl}
 use Rattle.slot.specs.declared.Slot.{Slot}
 use Rattle.slot.specs.Rank.{Strict}
-use Rattle.slot.specs.Slots.{key_of_slot, by_key, last, earlier, ahead}
+use Rattle.slot.specs.Slots.{key_of_slot, by_key, last, earlier, ahead, turned}
+use Rattle.std.specs.Prelude.{◌==◌}
+use Rattle.std.specs.Cmp.{IsTotalOrder, both_ways as one_test, tied_itself, Equal-is}
+use Rattle.std.specs.Ordering.{ordering_reverse, is_lt, is_eq, eq_by_cmp}
 
 -- keys in order decide, equal keys leave it to what follows
 pub by_first : (k l : Key) (r : Bool) → before k l ≡ true → by_key k l r ≡ true
@@ -102,6 +105,77 @@ strictly = record {
         age = g.0 i;
       };
 }
+
+-- what `cmp` answers, by the two tests
+abbrev by : Bool → Bool → Ordering
+by a b = cond a Greater (cond b Less Equal)
+
+by_flip : (a b : Bool) → (a ≡ true → b ≡ false) → by a b ≡ ordering_reverse (by b a)
+by_flip true true f = absurd (both_ways true (f refl) refl)
+by_flip true false f = refl
+by_flip false true f = refl
+by_flip false false f = refl
+
+by_less : (a b : Bool) → by a b ≡ Less → (a ≡ false) × (b ≡ true)
+by_less true b h = absurd (both_ways false refl (ap is_lt h))
+by_less false true h = (refl, refl)
+by_less false false h = absurd (both_ways false refl (ap is_lt h))
+
+by_equal : (a b : Bool) → by a b ≡ Equal → (a ≡ false) × (b ≡ false)
+by_equal true b h = absurd (both_ways false refl (ap is_eq h))
+by_equal false true h = absurd (both_ways false refl (ap is_eq h))
+by_equal false false h = (refl, refl)
+
+less_by : (a b : Bool) → (b ≡ true → a ≡ false) → b ≡ true → by a b ≡ Less
+less_by true b f h = absurd (both_ways true (f h) refl)
+less_by false true f h = refl
+less_by false false f h = absurd (both_ways false refl h)
+
+-- the order in which the earlier is the greater is total
+pub turned_total : IsTotalOrder turned
+turned_total = record {
+  antisymm = λ x y. by_flip (earlier x y) (earlier y x) (strictly.one_way x y);
+  trans = λ x y z a b. less_by (earlier x z) (earlier z x) (strictly.one_way z x) (strictly.chain z y x (by_less (earlier y z) (earlier z y) b).1 (by_less (earlier x y) (earlier y x) a).1);
+  congr = λ x y z a. let e = by_equal (earlier x y) (earlier y x) a in ap (λ u. turned u z) (strictly.apart x y e.0 e.1);
+}
+
+-- all fields are equal, as `==` tests them
+abbrev pub equal_fields : Slot → Slot → Bool
+equal_fields x y =
+    let m = x.held.message in let n = y.held.message in
+    ((m.time == n.time && (m.receiver == n.receiver && (m.sender == n.sender && (m.number == n.number && (m.kind == n.kind && m.«data» == n.«data»)))))
+    && x.held.group.mask == y.held.group.mask) && x.age == y.age
+
+-- slots with equal fields are one
+equal_slots : (x y : Slot) → equal_fields x y ≡ true → x ≡ y
+equal_slots x y e =
+    let t : x.held.message.time ≡ y.held.message.time = grind (arith, nat_tests) in
+    let r : x.held.message.receiver ≡ y.held.message.receiver = grind (arith, nat_tests) in
+    let s : x.held.message.sender ≡ y.held.message.sender = grind (arith, nat_tests) in
+    let n : x.held.message.number ≡ y.held.message.number = grind (arith, nat_tests) in
+    let k : x.held.message.kind ≡ y.held.message.kind = grind (arith, nat_tests) in
+    let d : x.held.message.«data» ≡ y.held.message.«data» = grind (arith, nat_tests) in
+    let g : x.held.group.mask ≡ y.held.group.mask = grind (arith, nat_tests) in
+    let a : x.age ≡ y.age = grind (arith, nat_tests) in
+    λ i. record {
+      held = record {
+        message = record { time = t i; receiver = r i; sender = s i; number = n i; kind = k i; «data» = d i };
+        group = record { mask = g i };
+      };
+      age = a i;
+    }
+
+-- `==` holds exactly of what the order does not tell apart
+pub turned_ties : (x y : Slot) → equal_fields x y ≡ eq_by_cmp turned x y
+turned_ties x y =
+    one_test (equal_fields x y) (eq_by_cmp turned x y) (λ e. subst (λ z. eq_by_cmp turned x z ≡ true) (equal_slots x y e) self)
+    (λ e. let b = by_equal (earlier x y) (earlier y x) (level e) in subst (λ z. equal_fields x z ≡ true) (strictly.apart x y b.0 b.1) (grind (arith, nat_tests)))
+  where
+    level : eq_by_cmp turned x y ≡ true → turned x y ≡ Equal
+    level e = (Equal-is (turned x y)).0 e
+
+    self : eq_by_cmp turned x x ≡ true
+    self = ap is_eq (tied_itself turned_total x)
 
 -- a younger one comes before by its key alone
 pub younger : (x y : Slot) → y.age < x.age → earlier x y ≡ before (key_of_slot x) (key_of_slot y)
