@@ -3,7 +3,7 @@ ghost use Rattle.std.specs.Prelude.{◌≡◌};
 ghost use Rattle.collection.specs.Replies.{ignored};
 ghost use Rattle.collection.specs.Rules.{meaning_of};
 ghost use Rattle.collection.specs.Reactions.{react_kept};
-ghost use Rattle.std.proofs.Common.{rules, arith};
+ghost use Rattle.std.proofs.Common.{rules};
 
 use super::{Collection, DAIRY, LOADED, MILKED, UNLOAD};
 use model::{Arrival, Model as DayModel, Sends, Words};
@@ -22,9 +22,9 @@ pub(super) fn ignore(words: &mut Words, arrival: Arrival) -> Sends
 impl DayModel for Collection {
     ghost meaning = { λ m. meaning_of m.farms m.tankers };
 
-    ghost counted = { first_of (Prim.search rules, Prim.grind (arith, Self.row.coded.inj)) };
+    ghost counted = { Prim.search rules };
 
-    ghost begun = { first_of (Prim.search rules, Prim.grind (arith, Self.row.coded.inj)) };
+    ghost begun = { Prim.search rules };
 
     ghost lawful = { λ m place order words a. react_kept m.farms m.tankers m.limits.1 place order words a };
 

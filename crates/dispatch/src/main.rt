@@ -11,6 +11,7 @@ use dayfile::Plan;
 use model::ModelFault;
 use report::{Deed, Heading, Line, fault_words, summary};
 use std::alloc::Global;
+use std::process::ExitCode;
 use std::{env, fs};
 
 // The messages that a calendar holds.
@@ -44,8 +45,8 @@ fn refused(heap: Global, plan: &Plan, fault: DayFault) -> anyhow::Error {
         None => format!(in heap; "refused {number}: {words}"),
     };
     match told {
-        Ok(text) => text.into(),
-        Err(_) => words.into(),
+        Ok(text) => anyhow!(text),
+        Err(_) => anyhow!(words),
     }
 }
 
@@ -53,7 +54,7 @@ fn refused(heap: Global, plan: &Plan, fault: DayFault) -> anyhow::Error {
 fn unmade(heap: Global, fault: ModelFault) -> anyhow::Error {
     let number = fault.refusal().number;
     match format!(in heap; "refused {number}: there are 1 to 10 farms and 1 to 6 tankers") {
-        Ok(text) => text.into(),
+        Ok(text) => anyhow!(text),
         Err(e) => e.into(),
     }
 }
@@ -115,10 +116,12 @@ fn run(rt: &HostRuntime) -> anyhow::Result<()> {
     print_day(rt, &plan)
 }
 
-fn main(rt: HostRuntime) -> anyhow::Result<()> {
-    let done = run(&rt);
-    if let Err(error) = &done {
-        eprintln!(rt; "dispatch: {error}")?;
+fn main(rt: HostRuntime) -> ExitCode {
+    match run(&rt) {
+        Ok(()) => ExitCode::SUCCESS,
+        Err(error) => {
+            let _ = eprintln!(rt; "dispatch: {error}");
+            ExitCode::FAILURE
+        }
     }
-    done
 }

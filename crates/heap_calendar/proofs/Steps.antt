@@ -7,6 +7,7 @@ use Rattle.std.specs.Slice.Heapsort.{IsHeapWithin}
 use Rattle.std.specs.Cmp.{IsTotalOrder}
 use Rattle.std.specs.BinaryHeap.{IsHeap, IsUpperBound, PopsGreatest, KeepsHeap}
 use Rattle.std.specs.Option.{option_map}
+use Rattle.std.specs.Prelude.{IfSome, IfNone, OnSome}
 use Rattle.std.specs.Ordering.{is_lt, ordering_reverse}
 use Rattle.std.proofs.lemmas.Bool.{cases_Bool, both_ways, cond_both}
 use Rattle.std.proofs.lemmas.Bool.Decides.{nat_tests}
@@ -17,52 +18,18 @@ use Rattle.slot.proofs.Ranks.{ranked_shuffled, ins_front, all_ranked}
 use Rattle.slot.specs.declared.Slot.{Slot}
 use Rattle.slot.specs.Slots.{earlier, turned, steady, Young, bare, bares, in_order}
 use Rattle.event.specs.Lists.{rest, first as head}
-use Rattle.slot.specs.Laws.{strictly}
+use Rattle.slot.specs.Laws.{strictly, by}
 use Rattle.slot.proofs.Holds.{steady_push, steady_tail}
 use Rattle.heap_calendar.specs.Totals.{Heapy, Sound, blank}
 
--- what `cmp` answers, by the two tests
-abbrev by : Bool → Bool → Ordering
-by a b = cond a Greater (cond b Less Equal)
-
-pub by_flip : (a b : Bool) → (a ≡ true → b ≡ false) → by a b ≡ ordering_reverse (by b a)
-by_flip true true f = absurd (both_ways true (f refl) refl)
-by_flip true false f = refl
-by_flip false true f = refl
-by_flip false false f = refl
-
-pub by_less : (a b : Bool) → by a b ≡ Less → (a ≡ false) × (b ≡ true)
-by_less true b h = let z : ◌≡◌ {A = ℕ} 0 1 = cc in absurd (let y : ⊥ = omega arith in y)
-by_less false true h = (refl, refl)
-by_less false false h = let z : ◌≡◌ {A = ℕ} 0 1 = cc in absurd (let y : ⊥ = omega arith in y)
-
-pub by_equal : (a b : Bool) → by a b ≡ Equal → (a ≡ false) × (b ≡ false)
-by_equal true b h = let z : ◌≡◌ {A = ℕ} 0 1 = cc in absurd (let y : ⊥ = omega arith in y)
-by_equal false true h = let z : ◌≡◌ {A = ℕ} 0 1 = cc in absurd (let y : ⊥ = omega arith in y)
-by_equal false false h = (refl, refl)
-
-pub less_by : (a b : Bool) → (b ≡ true → a ≡ false) → b ≡ true → by a b ≡ Less
-less_by true b f h = absurd (both_ways true (f h) refl)
-less_by false true f h = refl
-less_by false false f h = absurd (both_ways false refl h)
-
-abbrev pub total : IsTotalOrder (λ (x y : Slot) (r : Ordering). r ≡ turned x y)
-total = record {
-  cmp = turned;
-  says = λ x y r h. h;
-  flip = λ x y. by_flip (earlier x y) (earlier y x) (strictly.one_way x y);
-  trans = λ x y z a b. less_by (earlier x z) (earlier z x) (strictly.one_way z x) (strictly.chain z y x (by_less (earlier y z) (earlier z y) b).1 (by_less (earlier x y) (earlier y x) a).1);
-  alike = λ x y z a. let e = by_equal (earlier x y) (earlier y x) a in ap (λ u. turned u z) (strictly.apart x y e.0 e.1);
-}
-
-pub heaped : (xs : List Slot) → Heapy xs → IsHeap total xs
+pub heaped : (xs : List Slot) → Heapy xs → IsHeap turned xs
 unfolding IsHeap
 heaped xs h p k d low a b c =
     let e : (k - 1) / 2 ≡ p = omega arith in
     let l : p < length xs = omega arith in
     ap (λ u. is_lt (turned u (get_or xs k d))) (get_or_default xs p d blank l ∙ ap (λ i. get_or xs i blank) (sym e)) ∙ ap (λ u. is_lt (turned (get_or xs ((k - 1) / 2) blank) u)) (get_or_default xs k d blank c) ∙ h k (let m : 0 < k = omega arith in m) c
 
-pub heapy : (xs : List Slot) → IsHeap total xs → Heapy xs
+pub heapy : (xs : List Slot) → IsHeap turned xs → Heapy xs
 unfolding IsHeap
 heapy xs h k a b = h ((k - 1) / 2) k blank (omega arith) (omega arith) (omega arith) b
 
@@ -72,34 +39,44 @@ not_less false true f h = absurd (both_ways true h refl)
 not_less false false f h = refl
 
 -- what a pop gives is the first
-pub popped : (xs : List Slot) (x : Slot) (ys : List Slot) → IsPermutation xs (x ∷ ys) → IsUpperBound total x xs → ranked earlier xs ≡ x ∷ ranked earlier ys
+pub popped : (xs : List Slot) (x : Slot) (ys : List Slot) → IsPermutation xs (x ∷ ys) → IsUpperBound turned x xs → ranked earlier xs ≡ x ∷ ranked earlier ys
 popped xs x ys s g =
     let all : All (λ y. earlier y x ≡ false) (x ∷ ys) =
     All-weaker (λ y. is_lt (turned x y) ≡ false) (λ y. earlier y x ≡ false) (λ y h. not_less (earlier x y) (earlier y x) (strictly.one_way x y) h) (x ∷ ys)
     (all_shuffled (λ y. is_lt (turned x y) ≡ false) xs (x ∷ ys) s g) in
     sym (ranked_shuffled earlier strictly xs (x ∷ ys) s) ∙ ins_front earlier strictly x (ranked earlier ys) (all_ranked earlier strictly (λ y. earlier y x ≡ false) ys all.1)
 
-pub sound_push : (xs : List Slot) (x : Slot) (ys : List Slot) → IsPermutation (x ∷ xs) ys × KeepsHeap (λ (x y : Slot) (r : Ordering). r ≡ turned x y) xs ys → Sound x.age xs → Sound (x.age + 1) ys
+pub sound_push : (xs : List Slot) (x : Slot) (ys : List Slot) → IsPermutation (x ∷ xs) ys × KeepsHeap turned xs ys → Sound x.age xs → Sound (x.age + 1) ys
 sound_push xs x ys h s = (
   every_from_all (λ y. y.age < x.age + 1) ys (all_shuffled (λ y. y.age < x.age + 1) (x ∷ xs) ys h.0
       ((let b : x.age < x.age + 1 = omega arith in b), All-weaker (λ y. y.age < x.age) (λ y. y.age < x.age + 1) (λ y k. omega arith) xs (all_from_every (λ y. y.age < x.age) xs s.0))),
-  heapy ys (h.1 total (heaped xs s.1)),
+  heapy ys (h.1 (heaped xs s.1)),
   steady_push xs x ys h.0 s.0 s.2,
 )
 
 abbrev pub PopSays : Option Slot → List Slot → List Slot → Type 0
-PopSays r xs ys = MatchOption r (ys ≡ xs) (λ x. (x ≡ get_or xs 0 x) × IsPermutation xs (x ∷ ys) × PopsGreatest (λ (x y : Slot) (r : Ordering). r ≡ turned x y) xs x ys)
+PopSays r xs ys = MatchOption r (ys ≡ xs) (λ x. IsPermutation xs (x ∷ ys) × PopsGreatest turned xs x ys)
+
+-- the clauses of a pop, together
+pub pop_parts : (r : Option Slot) (xs ys : List Slot) (m n : ℕ) → IfNone r ((ys ≡ xs) × (n ≡ m)) → IfSome r (λ x. IsPermutation xs (x ∷ ys)) → IfSome r (λ x. PopsGreatest turned xs x ys) → PopSays r xs ys
+pop_parts None xs ys m n u p h = u.0
+pop_parts (Some x) xs ys m n u p h = (p, h)
+
+-- its lengths
+pub pop_lengths : (r : Option Slot) (xs ys : List Slot) (m n : ℕ) → OnSome r (n + 1 ≡ m) → IfNone r (m ≡ 0) → IfNone r ((ys ≡ xs) × (n ≡ m)) → MatchOption r ((m ≡ 0) × (n ≡ 0)) (λ _. n + 1 ≡ m)
+pop_lengths None xs ys m n l z u = (z, u.1 ∙ z)
+pop_lengths (Some x) xs ys m n l z u = l
 
 pub sound_pop : (r : Option Slot) (xs ys : List Slot) (n : ℕ) → PopSays r xs ys → Sound n xs → Sound n ys
 sound_pop None xs ys n h s = subst (Sound n) (sym h) s
 sound_pop (Some x) xs ys n h s = (
-  every_from_all (λ y. y.age < n) ys (all_shuffled (λ y. y.age < n) xs (x ∷ ys) h.1 (all_from_every (λ y. y.age < n) xs s.0)).1,
-  heapy ys (h.2 total (heaped xs s.1)).0,
-  steady_tail x (ranked earlier ys) (ap steady (sym (popped xs x ys h.1 (h.2 total (heaped xs s.1)).1)) ∙ s.2),
+  every_from_all (λ y. y.age < n) ys (all_shuffled (λ y. y.age < n) xs (x ∷ ys) h.0 (all_from_every (λ y. y.age < n) xs s.0)).1,
+  heapy ys (h.1 (heaped xs s.1)).0,
+  steady_tail x (ranked earlier ys) (ap steady (sym (popped xs x ys h.0 (h.1 (heaped xs s.1)).1)) ∙ s.2),
 )
 
 pub popped_heap : (xs ys : List Slot) (x : Slot) → PopSays (Some x) xs ys → Heapy xs → (ranked earlier xs ≡ x ∷ ranked earlier ys) × Heapy ys
-popped_heap xs ys x h s = (popped xs x ys h.1 (h.2 total (heaped xs s)).1, heapy ys (h.2 total (heaped xs s)).0)
+popped_heap xs ys x h s = (popped xs x ys h.0 (h.1 (heaped xs s)).1, heapy ys (h.1 (heaped xs s)).0)
 
 pub sound_none : (n : ℕ) (xs : List Slot) → xs ≡ [] → Sound n xs
 unfolding steady

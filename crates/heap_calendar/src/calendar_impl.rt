@@ -1,8 +1,9 @@
 // The calls of a calendar in a binary heap.
 ghost use Rattle.std.specs.BinaryHeap.{heap_items};
 ghost use Rattle.slot.specs.Slots.{in_order};
-ghost use Rattle.std.proofs.Common.{arith, rules};
-ghost use Rattle.slot.proofs.Holds.{length_in_order, in_order_sorted};
+ghost use Rattle.std.proofs.Common.{rules};
+ghost use Rattle.slot.proofs.Holds.{in_order_sorted};
+ghost use Rattle.heap_calendar.specs.Laws.{held_within};
 
 use crate::parts::{add, erase_back, pop_all, second, spread_back};
 use crate::store::{CAPACITY, HeapCalendar};
@@ -19,13 +20,13 @@ impl Calendar for HeapCalendar {
 
     ghost puts = { λ s. s.puts };
 
-    ghost roomy = { first_of (Prim.search rules, Prim.grind (arith, Self.row.coded.inj)) };
+    ghost roomy = { Prim.search rules };
 
-    ghost bounded = { first_of (Prim.search rules, Prim.grind (arith, Self.row.coded.inj)) };
+    ghost bounded = { Prim.search rules };
 
-    ghost fits = { λ s. omega (arith, length_in_order (heap_items s.heap), s.heap.«data».ok.0, s.short) };
+    ghost fits = { λ s. held_within (heap_items s.heap) _ 512 s.heap.«data».ok.0 s.short };
 
-    ghost few = { first_of (Prim.search rules, Prim.grind (arith, Self.row.coded.inj)) };
+    ghost few = { λ s. s.few };
 
     ghost sorted = { λ s. in_order_sorted (heap_items s.heap) };
 

@@ -6,7 +6,7 @@ ghost use Rattle.std.specs.Result.{result_map_both};
 ghost use Rattle.model.specs.declared.ModelFault.TheVariants.{Limits};
 ghost use Rattle.phold.specs.Rules.{allowed, receiver_of, delay_of, meaning_of};
 ghost use Rattle.phold.specs.Passing.{react_lawful};
-ghost use Rattle.std.proofs.Common.{rules, arith};
+ghost use Rattle.std.proofs.Common.{rules};
 
 use model::{Arrival, Model as DayModel, ModelFault, Sends, Sent, Words};
 use streams::{MODULUS, draw, multiplier, times};
@@ -62,9 +62,9 @@ fn delay(order: u32, drawn: u32) -> u32
 impl DayModel for Phold {
     ghost meaning = { λ m. meaning_of m.places m.seed m.replication };
 
-    ghost counted = { first_of (Prim.search rules, Prim.grind (arith, Self.row.coded.inj)) };
+    ghost counted = { Prim.search rules };
 
-    ghost begun = { first_of (Prim.search rules, Prim.grind (arith, Self.row.coded.inj)) };
+    ghost begun = { Prim.search rules };
 
     ghost lawful = { λ m place order words a. react_lawful m.places place order words a m.limits.0 };
 

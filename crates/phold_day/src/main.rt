@@ -1,6 +1,7 @@
 // Tries a published draw, then runs a PHOLD day alone: its events, and how the places stand at the end.
 #![tactic(auto)]
 
+use anyhow::anyhow;
 use day::LoneDay;
 use event::{Message, Start};
 use phold::Phold;
@@ -65,8 +66,8 @@ const STARTS: [Start; 5] = [
 fn refused(heap: Global, refusal: Refusal) -> anyhow::Error {
     let number = refusal.number;
     match format!(in heap; "refused {number}") {
-        Ok(text) => text.into(),
-        Err(_) => "refused".into(),
+        Ok(text) => anyhow!(text),
+        Err(_) => anyhow!("refused"),
     }
 }
 

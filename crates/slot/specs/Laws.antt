@@ -107,7 +107,7 @@ strictly = record {
 }
 
 -- what `cmp` answers, by the two tests
-abbrev by : Bool → Bool → Ordering
+abbrev pub by : Bool → Bool → Ordering
 by a b = cond a Greater (cond b Less Equal)
 
 by_flip : (a b : Bool) → (a ≡ true → b ≡ false) → by a b ≡ ordering_reverse (by b a)

@@ -12,7 +12,7 @@ loop-s-init c = (ap (λ l. l ++ ranked earlier (heap_items c.args.heap.now)) c.r
 
 pub loop-s-preserved : goal.loop-s-preserved
 loop-s-preserved c =
-    let p = popped_heap _ _ c.in-Some.s c.in-Some.ensures.items c.loop-s.invariant.1 in (
+    let p = popped_heap _ _ c.in-Some.s (c.in-Some.ensures.permutation, c.in-Some.ensures.heap_order) c.loop-s.invariant.1 in (
       ap (λ l. l ++ ranked earlier (heap_items c.pop.new.self)) c.push_reserved.ensures.items
           ∙ append_assoc (vec_items c.loop-s.out) (c.in-Some.s ∷ []) (ranked earlier (heap_items c.pop.new.self))
           ∙ ap (λ l. vec_items c.loop-s.out ++ l) (sym p.0) ∙ c.loop-s.invariant.0,

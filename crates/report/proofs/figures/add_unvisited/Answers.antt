@@ -3,12 +3,12 @@ use Rattle.std.proofs.Common.{◌≡◌, ℕ, ◌-◌, List, ◌++◌, vec_items
 use Rattle.report.specs.Summary.{unvisited_up_to}
 use Rattle.report.proofs.Rows.{row_yes, row_no}
 use Rattle.report.proofs.figures.add_unvisited.Goals as goal
-use Rattle.report.proofs.figures.add_unvisited.Goals.{then-is-unvisited+in-ok-push, else-is_unvisited}
+use Rattle.report.proofs.figures.add_unvisited.Goals.{then-is_unvisited+in_ok-push, else-is_unvisited}
 
 pub loop-farm-preserved : goal.loop-farm-preserved
 loop-farm-preserved c =
     elim c.if-is_unvisited.branch [
-      | then-is-unvisited+in-ok-push w ↦
+      | then-is_unvisited+in_ok-push w ↦
           row_yes _ _ _ _ c.loop-farm.farm c.loop-farm.auto.farm _ c.loop-farm.invariant (sym c.is_unvisited.ensures ∙ w.if-is_unvisited.true)
           (ap vec_items w.facts-is ∙ w.in_ok-push.ensures.items)
       | else-is_unvisited w ↦

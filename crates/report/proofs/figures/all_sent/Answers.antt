@@ -14,7 +14,7 @@ loop-p-preserved c =
     let D : Day = day_of (meaning_of c.args.day.now.model.farms c.args.day.now.model.tankers) c.args.day.now in
     let sent : c.from-n.result ≡ (D.place c.loop-p.p).sent = c.from-n.ensures ∙ ap (λ (q : Place). q.sent) c.place_of.ensures in
     let more : all_sent_of (c.loop-p.p + 1) D ≡ all_sent_of c.loop-p.p D + (D.place c.loop-p.p).sent = sum_more (λ p. (D.place p).sent) c.loop-p.p in
-    (sym (more ∙ ap (λ (k : ℕ). k + (D.place c.loop-p.p).sent) (sym c.loop-p.invariant.0) ∙ ap (λ (k : ℕ). c.loop-p.n + k) (sym sent)), omega (arith, c.loop-p.invariant.1, c.from-n.type-inv))
+    (sym (more ∙ ap (λ (k : ℕ). k + (D.place c.loop-p.p).sent) (sym c.loop-p.invariant.0) ∙ ap (λ (k : ℕ). c.loop-p.n + k) (sym sent)), omega (arith, c.loop-p.invariant.1, c.from-n.type_inv))
 
 pub returns : goal.returns
 returns c =

@@ -6,4 +6,13 @@ use Rattle.heap_calendar.proofs.calendar_impl.HeapCalendarCalendar.empty.Goals a
 pub invariant_of-self : goal.invariant_of-self
 invariant_of-self c =
     let s = sound_none 0 _ c.clear.ensures.items in
-    (omega (arith, c.clear.ensures.capacity, c.args.self.now.roomy), (c.args.self.now.roomier, (omega (arith, c.clear.ensures.len), (omega arith, (omega arith, (s.0, (s.1, (s.2, tt))))))))
+    record {
+      roomy = omega (arith, c.clear.ensures.capacity, c.args.self.now.roomy);
+      roomier = c.args.self.now.roomier;
+      short = omega (arith, c.clear.ensures.len);
+      few = omega arith;
+      aged = omega arith;
+      young = s.0;
+      built = s.1;
+      apart = s.2;
+    }

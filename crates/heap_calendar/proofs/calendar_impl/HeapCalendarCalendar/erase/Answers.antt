@@ -23,4 +23,13 @@ invariant_of-self c =
     let n : length c.as_slice.result.now ≤ 512 = omega (arith, ap length e, length_ranked earlier strictly (heap_items s.heap), s.heap.«data».ok.0, s.short) in
     let a = c.erase_back-self.ensures.sound in
     let l = c.erase_back-self.ensures.len in
-    (omega (arith, c.erase_back-self.ensures.cap, c.pop_all.ensures.caps.0, s.roomy), (omega (arith, c.pop_all.ensures.caps.1, c.clear.ensures.capacity, s.roomier), (omega (arith, l.0, l.1), (s.few, (omega (arith, l.1), (a.0, (a.1, (a.2, tt))))))))
+    record {
+      roomy = omega (arith, c.erase_back-self.ensures.cap, c.pop_all.ensures.caps.0, s.roomy);
+      roomier = omega (arith, c.pop_all.ensures.caps.1, c.clear.ensures.capacity, s.roomier);
+      short = omega (arith, l.0, l.1);
+      few = s.few;
+      aged = omega (arith, l.1);
+      young = a.0;
+      built = a.1;
+      apart = a.2;
+    }

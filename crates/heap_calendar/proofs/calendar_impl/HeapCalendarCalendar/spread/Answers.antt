@@ -30,4 +30,13 @@ invariant_of-self c =
     let n : length c.as_slice.result.now ≤ 512 = omega (arith, ap length e, length_ranked earlier strictly (heap_items s.heap), s.heap.«data».ok.0, s.short) in
     let m : c.len.result ≡ length c.as_slice.result.now = c.len.ensures ∙ sym c.as_slice.ensures.len in
     let a = sound_moved _ _ _ _ m refl c.spread_back.ensures.sound in
-    (omega (arith, c.spread_back.ensures.cap, c.pop_all.ensures.caps.0, s.roomy), (omega (arith, c.pop_all.ensures.caps.1, c.clear.ensures.capacity, s.roomier), (omega (arith, c.spread_back.ensures.len), (s.few, (omega arith, (a.0, (a.1, (a.2, tt))))))))
+    record {
+      roomy = omega (arith, c.spread_back.ensures.cap, c.pop_all.ensures.caps.0, s.roomy);
+      roomier = omega (arith, c.pop_all.ensures.caps.1, c.clear.ensures.capacity, s.roomier);
+      short = omega (arith, c.spread_back.ensures.len);
+      few = s.few;
+      aged = omega arith;
+      young = a.0;
+      built = a.1;
+      apart = a.2;
+    }

@@ -7,4 +7,13 @@ pub invariant_of-result : goal.invariant_of-result
 invariant_of-result c =
     let m = c.in_ok-heap.ensures in
     let s = sound_none 0 _ m.items in
-    (m.capacity, (c.in_ok-spare.ensures.capacity, (omega (arith, m.len), (omega arith, (omega arith, (s.0, (s.1, (s.2, tt))))))))
+    record {
+      roomy = m.capacity;
+      roomier = c.in_ok-spare.ensures.capacity;
+      short = omega (arith, m.len);
+      few = omega arith;
+      aged = omega arith;
+      young = s.0;
+      built = s.1;
+      apart = s.2;
+    }
