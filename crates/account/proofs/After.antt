@@ -1,7 +1,7 @@
 -- What stands after any accepted calls.
-use Rattle.std.proofs.Common.{◌≡◌, ℕ, zero, suc, ◌+◌, ◌<◌, ◌≤◌, refl, arith}
+use Rattle.std.proofs.Common.{arith}
 use Rattle.model.specs.Meaning.{Meaning, Law}
-use Rattle.account.specs.Account.{Account, Call, load, branch, decide, waive, step, retire, fed, Accepted, After, begun, one_more, sum_below, empty}
+use Rattle.account.specs.Account.{Account, Call, load, branch, decide, waive, step, retire, fed, Accepted, After, begun, one_more}
 use Rattle.account.specs.Sound.{Sound, Faithful, Bounded}
 use Rattle.account.specs.Claims.{SoundStands, AloneStands, BoundedStands}
 use Rattle.account.proofs.Calls.{empty_sound, load_sound, branch_sound, decide_sound, waive_sound, retire_sound}

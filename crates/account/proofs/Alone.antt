@@ -1,15 +1,15 @@
 -- Each live variant's day is the day run alone under its orders.
-use Rattle.std.proofs.Common.{◌≡◌, ℕ, Bool, true, false, cond, not, eqb, ◌⊎◌, List, [], ◌∷◌, ◌++◌, map, length, Some, None, Option, sym, refl, subst, inl, inr}
+use Rattle.std.proofs.Common.{◌≡◌, ℕ, true, false, not, eqb, ◌⊎◌, List, [], ◌∷◌, ◌++◌, map, length, Some, None, Option, sym, refl, subst, inl, inr}
 use Rattle.std.proofs.lemmas.List.{map-append}
 use Rattle.std.proofs.lemmas.Bool.{cases_Bool, both_ways, cond_both, and_parts}
 use Rattle.event.specs.declared.Key.{Key}
 use Rattle.event.specs.declared.Start.{Start}
 use Rattle.model.specs.Meaning.{Meaning}
-use Rattle.day.specs.Alone.{Order, Alone, order_now}
-use Rattle.day.specs.Day.{Day, event, ordered}
+use Rattle.day.specs.Alone.{Order, Alone}
+use Rattle.day.specs.Day.{event, ordered}
 use Rattle.day.proofs.Alone.{alone_starts, alone_event, alone_order}
 use Rattle.account.specs.Account.{Account, empty, origin, least, runs, fed_load, fed_branch, fed_decide, fed_waive, fed_retire, fed_step_at, fed_step}
-use Rattle.account.specs.Orders.{Given, plain}
+use Rattle.account.specs.Orders.{plain}
 use Rattle.account.specs.Sound.{Faithful}
 use Rattle.account.proofs.Calls.{live_origin}
 

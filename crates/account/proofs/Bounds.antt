@@ -5,11 +5,9 @@ use Rattle.event.specs.declared.Key.{Key}
 use Rattle.event.specs.declared.Message.{Message}
 use Rattle.event.specs.Keys.{key_of, before}
 use Rattle.event.specs.Lists.{first}
-use Rattle.model.specs.Meaning.{Meaning, Law}
-use Rattle.account.specs.Account.{Account, After, ind, any_below, sum_below, earlier, least, runs, reached_by, leads_run}
+use Rattle.account.specs.Account.{Account, ind, any_below, sum_below, earlier, least, runs, reached_by}
 use Rattle.account.specs.Claims.{ExecutionsWithin, CopiesWithin}
-use Rattle.account.specs.Groups.{leads, worked, copies}
-use Rattle.account.specs.Sound.{Sound}
+use Rattle.account.specs.Groups.{leads}
 use Rattle.account.proofs.After.{sound_after}
 use Rattle.account.proofs.Counts.{sum_le, ind_and, executions_few}
 use Rattle.account.proofs.Executions.{executions_lead}

@@ -1,18 +1,14 @@
 -- Load, branch, decide, waive and retire keep the account sound.
-use Rattle.std.proofs.Common.{◌≡◌, ℕ, zero, suc, ◌+◌, ◌<◌, ◌≤◌, Bool, true, false, cond, not, ◌&&◌, ◌||◌, eqb, leb, ◌⊎◌, List, [], ◌∷◌, ◌++◌, length, Some, None, Option, sym, refl, ap, ◌∙◌, subst, inl, inr, ⊎_elim, arith}
+use Rattle.std.proofs.Common.{◌≡◌, ℕ, ◌<◌, true, false, not, ◌&&◌, ◌||◌, eqb, ◌⊎◌, List, sym, refl, ap, ◌∙◌, subst, inl, inr, ⊎_elim, arith}
 use Rattle.std.specs.List.{AllByRecursion as All}
 use Rattle.std.proofs.lemmas.Bool.{cases_Bool, both_ways, cond_both, cond-true, cond-false, cases_eq, eq-eqb, ne_eqb, eqb-true, or_cases, or_parts, or_from, or_left, or_right, and_parts, and_from, not_from_false}
 use Rattle.std.proofs.lemmas.Bool.Decides.{nat_tests}
-use Rattle.event.specs.declared.Message.{Message}
 use Rattle.event.specs.declared.Start.{Start}
 use Rattle.event.specs.declared.Key.{Key}
-use Rattle.event.specs.Keys.{key_of}
 use Rattle.account.specs.Finds.{find}
 use Rattle.model.specs.Meaning.{Meaning, Law}
-use Rattle.day.specs.declared.place.Place.{Place}
-use Rattle.day.specs.Day.{Day, ordered, ordered_place, starting}
+use Rattle.day.specs.Day.{ordered, ordered_place}
 use Rattle.day.specs.Tidy.{Tidy}
-use Rattle.account.specs.Orders.{Given}
 use Rattle.account.specs.Account.{Account, empty, origin, fed_load, fed_branch, fed_decide, fed_waive, fed_retire}
 use Rattle.account.specs.Sound.{Sound}
 use Rattle.day.proofs.Tidy.{tidy_order, tidy_starts}

@@ -1,10 +1,10 @@
 -- A chain reaches what is reached, after any accepted calls.
-use Rattle.std.proofs.Common.{◌≡◌, ℕ, zero, suc, ◌+◌, ◌<◌, ◌≤◌, Bool, true, false, sym, refl, ap, ◌∙◌, ⊎_elim}
+use Rattle.std.proofs.Common.{◌≡◌, ℕ, true, false, sym, refl, ap, ◌∙◌, ⊎_elim}
 use Rattle.std.proofs.lemmas.Bool.{cases_Bool}
 use Rattle.model.specs.Meaning.{Meaning, Law}
 use Rattle.account.specs.Account.{Account, Call, load, branch, decide, waive, step, retire, fed, Accepted, After, begun, one_more}
 use Rattle.account.specs.Sound.{Sound, Faithful}
-use Rattle.account.specs.Chain.{pair, ChainReaches}
+use Rattle.account.specs.Chain.{pair}
 use Rattle.account.specs.Claims.{ChainStands, UntouchedSame}
 use Rattle.account.proofs.After.{sound_after, alone_stands}
 use Rattle.account.proofs.Clock.{Clock, empty_clock, load_clock, branch_clock, decide_clock, retire_clock, step_clock}

@@ -1,29 +1,27 @@
 -- A chain reaches what is reached: a step keeps it so.
-use Rattle.std.proofs.Common.{◌≡◌, ℕ, zero, suc, ◌+◌, ◌<◌, ◌≤◌, Bool, true, false, cond, not, ◌&&◌, ◌||◌, eqb, leb, ◌⊎◌, List, [], ◌∷◌, ◌++◌, map, length, Some, None, Option, sym, refl, ap, ◌∙◌, subst, inl, inr, ⊎_elim, add-one, arith}
+use Rattle.std.proofs.Common.{◌≡◌, ℕ, suc, ◌<◌, ◌≤◌, Bool, true, false, cond, not, ◌&&◌, ◌||◌, eqb, ◌⊎◌, map, length, Some, None, Option, sym, refl, ap, ◌∙◌, subst, inl, inr, ⊎_elim, add-one, arith}
 use Rattle.std.specs.List.{AllByRecursion as All}
 use Rattle.std.proofs.lemmas.List.{length_push}
 use Rattle.std.proofs.lemmas.Bool.{cases_Bool, both_ways, cond_both, cond-true, cond-false, cases_eq, eq-eqb, ne_eqb, eqb-true, or_cases, or_parts, or_from, or_left, or_right, and_parts, and_from, and_right}
-use Rattle.std.proofs.lemmas.Bool.Decides.{nat_tests}
 use Rattle.event.specs.declared.Message.{Message}
-use Rattle.event.specs.declared.Start.{Start}
 use Rattle.event.specs.declared.Key.{Key}
 use Rattle.event.specs.Keys.{key_of, before, same}
 use Rattle.event.specs.Lists.{first}
 use Rattle.account.specs.Finds.{find, some, either}
 use Rattle.model.specs.Meaning.{Meaning, Law}
-use Rattle.day.specs.Day.{Day, posted_by, event_at, event}
-use Rattle.account.specs.Orders.{Given, alone_under, plain}
+use Rattle.day.specs.Day.{posted_by}
+use Rattle.account.specs.Orders.{alone_under, plain}
 use Rattle.account.specs.Account.{Account, least, runs, sends, sent_at, reached_by, fed_step_at, fed_step}
 use Rattle.account.specs.Sound.{Sound, Faithful}
-use Rattle.account.specs.Chain.{Run, In, Runs, Sends, Moment, set, ran, Since, Touched, by_order, by_message, Carried, run_of}
-use Rattle.event.proofs.Orders.{never, chain}
+use Rattle.account.specs.Chain.{Runs, Sends, Moment, set, ran, Since, Touched, by_order, by_message, Carried, run_of}
+use Rattle.event.proofs.Orders.{never}
 use Rattle.day.proofs.Places.{none_some}
 use Rattle.account.proofs.Finding.{find_key, all_find}
 use Rattle.account.proofs.Events.{all_first}
-use Rattle.account.proofs.Step.{Ran, ran_from, who, one_way, some_is, some_from, sends_ran, sends_runs, sends_over, marked_sent, marked_kept, find_ran, find_old, day_ran, day_idle, reached_sym', receiver}
+use Rattle.account.proofs.Step.{Ran, ran_from, who, one_way, some_is, some_from, sends_ran, sends_runs, sends_over, marked_sent, marked_kept, find_ran, find_old, day_ran, day_idle, reached_sym'}
 use Rattle.account.proofs.Clock.{Clock, Ahead, sent_ahead}
 use Rattle.account.proofs.Past.{number_below, ran_in, sent_from}
-use Rattle.account.proofs.Chains.{duo, Live, Chained, Grows, touched_grows, carried_grows, since_grows, all_in, all_plain}
+use Rattle.account.proofs.Chains.{duo, Live, Chained, Grows, touched_grows, carried_grows, all_in, all_plain}
 
 module _ (M : Meaning) (law : Law M) (A : Account) (s : Sound M A) (f : Faithful M A) (clock : Clock A) (c : Chained M A) (k : Key) (is : least A 16 ≡ Some k) where
   abbrev A' : Account

@@ -1,17 +1,16 @@
 -- A chain reaches what is reached: the claim, and load, branch, decide, waive and retire keep it so.
-use Rattle.std.proofs.Common.{◌≡◌, ℕ, zero, suc, ◌+◌, ◌<◌, ◌≤◌, Bool, true, false, cond, not, ◌&&◌, ◌||◌, eqb, leb, ◌⊎◌, List, [], ◌∷◌, ◌++◌, map, length, Some, None, Option, sym, refl, ap, ◌∙◌, subst, inl, inr, ⊎_elim, arith}
+use Rattle.std.proofs.Common.{◌≡◌, ℕ, suc, ◌<◌, Bool, true, false, not, ◌&&◌, ◌||◌, eqb, ◌⊎◌, List, [], ◌∷◌, ◌++◌, map, length, Some, sym, refl, ap, ◌∙◌, subst, inl, inr, ⊎_elim, arith}
 use Rattle.std.specs.List.{AllByRecursion as All}
 use Rattle.std.proofs.ByRecursion.{All-weaker, All-push}
 use Rattle.std.proofs.lemmas.Bool.{cases_Bool, both_ways, cond_both, cond-true, cond-false, cases_eq, eq-eqb, ne_eqb, eqb-true, eqb-false, or_cases, or_parts, or_from, or_left, or_right, and_parts, and_from, not-true}
-use Rattle.std.proofs.lemmas.Bool.Decides.{nat_tests}
 use Rattle.event.specs.declared.Message.{Message}
 use Rattle.event.specs.declared.Start.{Start}
 use Rattle.event.specs.declared.Key.{Key}
-use Rattle.event.specs.Keys.{key_of, before}
+use Rattle.event.specs.Keys.{key_of}
 use Rattle.event.specs.Lists.{first}
 use Rattle.account.specs.Finds.{find}
-use Rattle.model.specs.Meaning.{Meaning, Law}
-use Rattle.day.specs.Day.{Day, ordered}
+use Rattle.model.specs.Meaning.{Meaning}
+use Rattle.day.specs.Day.{ordered}
 use Rattle.day.specs.Alone.{Order, alone}
 use Rattle.account.specs.Orders.{Given, plain, alone_under}
 use Rattle.std.proofs.lemmas.List.{map-append}

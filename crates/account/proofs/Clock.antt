@@ -1,25 +1,23 @@
 -- What has run in any live variant comes before what waits in any live variant.
-use Rattle.std.proofs.Common.{◌≡◌, ℕ, zero, suc, ◌+◌, ◌<◌, ◌≤◌, Bool, true, false, cond, not, ◌&&◌, ◌||◌, eqb, leb, ◌⊎◌, List, [], ◌∷◌, ◌++◌, length, Some, None, Option, sym, refl, ap, ◌∙◌, subst, inl, inr, ⊎_elim, arith}
+use Rattle.std.proofs.Common.{◌≡◌, ℕ, ◌<◌, true, false, not, eqb, leb, ◌⊎◌, List, [], ◌∷◌, Some, None, Option, sym, refl, ap, ◌∙◌, subst, inl, inr, arith}
 use Rattle.std.specs.List.{AllByRecursion as All}
 use Rattle.std.proofs.ByRecursion.{All-weaker, all_kept_by, All-push}
-use Rattle.std.proofs.lemmas.Bool.{cases_Bool, both_ways, cond_both, cond-true, cond-false, eqb-true, and_parts}
+use Rattle.std.proofs.lemmas.Bool.{cases_Bool, cond_both, cond-true, eqb-true, and_parts}
 use Rattle.event.specs.declared.Message.{Message}
 use Rattle.event.specs.declared.Start.{Start}
 use Rattle.event.specs.declared.Key.{Key}
 use Rattle.event.specs.Keys.{key_of, before, same}
-use Rattle.event.specs.Lists.{first, rest, Rising, insert_all}
+use Rattle.event.specs.Lists.{first, rest, Rising}
 use Rattle.account.specs.Finds.{find}
 use Rattle.model.specs.Meaning.{Meaning, Law}
 use Rattle.day.proofs.Tidy.{stamped_later, first_rest}
-use Rattle.day.specs.Day.{Day, arrival_of, sent_by, posted_by, event_at, event, ordered}
-use Rattle.day.specs.Tidy.{Tidy}
-use Rattle.account.specs.Account.{Account, empty, origin, least, runs, fed_load, fed_branch, fed_decide, fed_waive, fed_retire, fed_step_at, fed_step}
+use Rattle.day.specs.Day.{Day, arrival_of, sent_by, posted_by, event_at, ordered}
+use Rattle.account.specs.Account.{Account, empty, origin, least, runs, fed_load, fed_branch, fed_decide, fed_retire, fed_step_at, fed_step}
 use Rattle.account.specs.Sound.{Sound}
-use Rattle.event.proofs.Orders.{never, chain, apart, sooner, same_from}
+use Rattle.event.proofs.Orders.{chain, apart, sooner, same_from}
 use Rattle.day.proofs.Places.{none_some}
 use Rattle.event.proofs.Insertion.{rising_back, all_insert_all}
 use Rattle.account.proofs.Events.{all_first}
-use Rattle.day.proofs.Events.{all_rest}
 use Rattle.account.proofs.Calls.{live_origin}
 use Rattle.account.proofs.Step.{Ran, who, day_ran, day_idle, least_first}
 

@@ -1,5 +1,5 @@
 -- What waits after an event.
-use Rattle.std.proofs.Common.{◌≡◌, ℕ, zero, suc, ◌+◌, ◌<◌, ◌≤◌, Bool, true, false, cond, leb, ◌⊎◌, List, [], ◌∷◌, ◌++◌, length, Some, None, Option, sym, refl, ap, ◌∙◌, subst, inl, inr, arith}
+use Rattle.std.proofs.Common.{◌≡◌, ℕ, suc, ◌+◌, ◌<◌, ◌≤◌, true, false, cond, leb, ◌⊎◌, List, [], ◌∷◌, length, Some, None, sym, refl, ap, ◌∙◌, subst, inl, inr, arith}
 use Rattle.std.specs.List.{AllByRecursion as All}
 use Rattle.std.proofs.ByRecursion.{All-weaker, all_kept_by}
 use Rattle.std.proofs.lemmas.Bool.{cases_Bool}
@@ -10,12 +10,12 @@ use Rattle.event.specs.Lists.{insert, insert_all, first, rest}
 use Rattle.event.proofs.Insertion.{all_insert, rising_back}
 use Rattle.event.proofs.Orders.{same_true}
 use Rattle.model.specs.declared.Sent.{Sent}
-use Rattle.model.specs.Meaning.{Meaning, Law, listed}
+use Rattle.model.specs.Meaning.{Meaning, listed}
 use Rattle.day.specs.Day.{Day, stamp, stamped, within, posted_by, reaction, event_at}
 use Rattle.day.specs.Tidy.{Tidy}
 use Rattle.day.proofs.Events.{all_rest}
 use Rattle.day.proofs.Numbers.{Between, stamped_sequence, sequence_between, length_stamped}
-use Rattle.account.specs.Finds.{find, some, either}
+use Rattle.account.specs.Finds.{find, either}
 use Rattle.day.proofs.Places.{none_some}
 use Rattle.account.proofs.Finding.{find_none, find_insert, find_rest}
 

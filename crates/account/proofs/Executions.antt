@@ -1,9 +1,9 @@
 -- A step works one execution for each group.
-use Rattle.std.proofs.Common.{◌≡◌, ℕ, zero, suc, ◌+◌, ◌<◌, ◌≤◌, Bool, true, false, cond, not, ◌&&◌, ◌||◌, ◌⊎◌, List, [], ◌∷◌, Some, None, Option, sym, refl, ap, ◌∙◌, subst, inl, inr, ⊎_elim}
+use Rattle.std.proofs.Common.{◌≡◌, ℕ, true, false, not, ◌&&◌, ◌⊎◌, Some, sym, ap, ◌∙◌, inl, inr}
 use Rattle.std.proofs.lemmas.Bool.{cases_Bool, both_ways, and_left}
 use Rattle.event.specs.declared.Key.{Key}
 use Rattle.model.specs.Meaning.{Meaning, Law}
-use Rattle.account.specs.Account.{Account, After, ind, any_below, sum_below, least, runs, reached_by, leads_run}
+use Rattle.account.specs.Account.{Account, After, ind, sum_below, least, runs, reached_by, leads_run}
 use Rattle.account.specs.Groups.{leads, worked}
 use Rattle.account.specs.Sound.{Sound}
 use Rattle.account.specs.Claims.{ExecutionsGroups}

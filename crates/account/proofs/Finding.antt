@@ -1,15 +1,15 @@
 -- A message found by its key.
-use Rattle.std.proofs.Common.{◌≡◌, ℕ, zero, suc, ◌+◌, ◌<◌, ◌≤◌, Bool, true, false, cond, not, ◌&&◌, ◌||◌, ◌⊎◌, List, [], ◌∷◌, ◌++◌, Some, None, Option, sym, refl, ap, ◌∙◌, subst, inl, inr, ⊎_elim, arith}
+use Rattle.std.proofs.Common.{◌≡◌, true, false, cond, ◌⊎◌, List, [], ◌∷◌, Some, None, Option, sym, refl, ap, ◌∙◌, subst, inl, inr}
 use Rattle.std.specs.List.{AllByRecursion as All}
 use Rattle.std.proofs.ByRecursion.{All-weaker}
-use Rattle.std.proofs.lemmas.Bool.{cases_Bool, both_ways, cond_both, cond-true, cond-false, true≢false}
+use Rattle.std.proofs.lemmas.Bool.{cases_Bool, both_ways, cond-true, cond-false}
 use Rattle.event.specs.declared.Message.{Message}
 use Rattle.event.specs.declared.Key.{Key}
 use Rattle.event.specs.Keys.{key_of, before, same}
 use Rattle.event.specs.Lists.{insert, first, rest, Rising}
-use Rattle.account.specs.Finds.{find, some, either}
+use Rattle.account.specs.Finds.{find}
 use Rattle.day.proofs.Places.{none_some}
-use Rattle.event.proofs.Orders.{never, chain, apart, same_refl, same_true, same_from, same_not, before_ne}
+use Rattle.event.proofs.Orders.{same_true, same_from, same_not, before_ne}
 
 pub find_key : (k : Key) (xs : List Message) (m : Message) → find k xs ≡ Some m → key_of m ≡ k
 find_key k [] m e = absurd (none_some m e)

@@ -1,12 +1,12 @@
 -- Any list of calls, denied ones counted in, is a list of accepted ones.
-use Rattle.std.proofs.Common.{◌≡◌, ℕ, zero, suc, ◌+◌, ◌<◌, ◌≤◌, Bool, true, false, cond, not, ◌&&◌, ◌||◌, eqb, ltb, leb, ◌⊎◌, List, [], ◌∷◌, Some, None, Option, sym, refl, ap, ◌∙◌, subst, inl, inr, ⊎_elim, arith}
+use Rattle.std.proofs.Common.{◌≡◌, ℕ, suc, ◌<◌, Bool, true, false, cond, not, ltb, leb, List, [], ◌∷◌, Some, None, Option, sym, refl}
 use Rattle.std.specs.List.{AllByRecursion as All}
-use Rattle.std.proofs.lemmas.Bool.{cases_Bool, both_ways, cond-true, cond-false, leb-false, not-false}
+use Rattle.std.proofs.lemmas.Bool.{leb-false, not-false}
 use Rattle.event.specs.declared.Start.{Start}
-use Rattle.model.specs.Meaning.{Meaning, Law}
-use Rattle.account.specs.Account.{Account, Call, load, branch, decide, waive, step, retire, fed, Accepted, After, begun, one_more}
+use Rattle.model.specs.Meaning.{Meaning}
+use Rattle.account.specs.Account.{Account, Call, load, branch, decide, waive, step, retire, Accepted, After, begun, one_more}
 use Rattle.account.specs.Sound.{Sound}
-use Rattle.account.specs.Refusals.{Refusal, first_of, first_at, bad_start, refusal, told_or, told, history}
+use Rattle.account.specs.Refusals.{Refusal, bad_start, refusal, told_or, history}
 use Rattle.account.specs.Claims.{HistoryAfter}
 use Rattle.day.proofs.Places.{none_some}
 use Rattle.account.proofs.After.{sound_after}

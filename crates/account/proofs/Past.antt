@@ -1,16 +1,15 @@
 -- What a day run alone keeps of its earlier events.
-use Rattle.std.proofs.Common.{◌≡◌, ℕ, zero, suc, ◌+◌, ◌<◌, ◌≤◌, Bool, true, false, cond, not, ◌&&◌, ◌||◌, eqb, leb, ◌⊎◌, List, [], ◌∷◌, ◌++◌, length, Some, None, Option, sym, refl, ap, ◌∙◌, subst, inl, inr, ⊎_elim, arith}
+use Rattle.std.proofs.Common.{◌≡◌, ℕ, zero, suc, ◌+◌, ◌<◌, ◌≤◌, cond, eqb, leb, ◌⊎◌, List, [], ◌∷◌, ◌++◌, length, Some, None, Option, sym, refl, ap, ◌∙◌, subst, inl, inr, ⊎_elim, arith}
 use Rattle.std.specs.List.{AllByRecursion as All}
-use Rattle.std.proofs.ByRecursion.{All-weaker, all_kept_by}
-use Rattle.std.proofs.lemmas.Bool.{cases_Bool, both_ways, cond_both, cond-true, cond-false, cases_eq, eq-eqb, eqb-true}
+use Rattle.std.proofs.ByRecursion.{all_kept_by}
+use Rattle.std.proofs.lemmas.Bool.{cond_both, cond-true, cases_eq, eq-eqb, eqb-true}
 use Rattle.event.specs.declared.Message.{Message}
 use Rattle.event.specs.declared.Start.{Start}
-use Rattle.event.specs.declared.Key.{Key}
 use Rattle.event.specs.Keys.{key_of}
 use Rattle.event.specs.Lists.{first}
 use Rattle.account.specs.Finds.{find}
-use Rattle.model.specs.Meaning.{Meaning, Law, listed}
-use Rattle.day.specs.Day.{Day, reaction, stamped, posted_by, place_after, event_at, event, ordered, ordered_place, starting}
+use Rattle.model.specs.Meaning.{Meaning, listed}
+use Rattle.day.specs.Day.{Day, reaction, posted_by, place_after, event_at, event, ordered, ordered_place}
 use Rattle.day.specs.Alone.{Order, ordered_at, alone}
 use Rattle.account.specs.Account.{sent_at}
 use Rattle.day.proofs.Places.{none_some}

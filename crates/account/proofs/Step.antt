@@ -1,20 +1,18 @@
 -- A step keeps the account sound.
-use Rattle.std.proofs.Common.{◌≡◌, ℕ, zero, suc, ◌+◌, ◌<◌, ◌≤◌, Bool, true, false, cond, not, ◌&&◌, ◌||◌, eqb, leb, ◌⊎◌, List, [], ◌∷◌, ◌++◌, length, Some, None, Option, sym, refl, ap, ◌∙◌, subst, inl, inr, ⊎_elim, arith}
-use Rattle.std.specs.List.{AllByRecursion as All}
-use Rattle.std.proofs.lemmas.Bool.{cases_Bool, both_ways, cond_both, cond-true, cond-false, cases_eq, eq-eqb, ne_eqb, eqb-true, or_cases, or_parts, or_from, or_left, or_right, and_parts, and_from, and_left, and_right, and_cases}
+use Rattle.std.proofs.Common.{◌≡◌, ℕ, zero, suc, ◌<◌, Bool, true, false, cond, ◌&&◌, ◌||◌, eqb, ◌⊎◌, Some, None, Option, sym, refl, ap, ◌∙◌, subst, inl, inr, ⊎_elim, arith}
+use Rattle.std.proofs.lemmas.Bool.{cases_Bool, both_ways, cond_both, cond-true, cond-false, cases_eq, eq-eqb, ne_eqb, or_parts, or_from, or_left, or_right, and_parts, and_from, and_left, and_right}
 use Rattle.std.proofs.lemmas.Bool.Decides.{nat_tests}
 use Rattle.event.specs.declared.Message.{Message}
 use Rattle.event.specs.declared.Key.{Key}
 use Rattle.event.specs.Keys.{key_of, before, same}
-use Rattle.event.specs.Lists.{first, rest}
+use Rattle.event.specs.Lists.{first}
 use Rattle.account.specs.Finds.{find, some, either}
 use Rattle.model.specs.Meaning.{Meaning, Law}
-use Rattle.day.specs.declared.place.Place.{Place}
-use Rattle.day.specs.Day.{Day, posted_by, place_after, event_at, event}
+use Rattle.day.specs.Day.{posted_by, place_after, event_at, event}
 use Rattle.day.specs.Tidy.{Tidy}
 use Rattle.account.specs.Account.{Account, earlier, least, is_key, runs, sent_at, sends, reached_by, fed_step_at, fed_step}
 use Rattle.account.specs.Sound.{Sound}
-use Rattle.event.proofs.Orders.{never, chain, apart, same_refl, same_true, same_from}
+use Rattle.event.proofs.Orders.{never, chain, apart, same_true, same_from}
 use Rattle.day.proofs.Places.{none_some}
 use Rattle.account.proofs.Finding.{find_key, first_find, find_first}
 use Rattle.event.proofs.Insertion.{rising_back}

@@ -1,6 +1,5 @@
 -- Which places a chain of messages touches, for two variants: a relation between two days run alone.
-use Rattle.std.specs.Prelude.{◌≡◌, ℕ, zero, suc, ◌+◌, ◌<◌, ◌≤◌, Bool, true, false, not, ◌⊎◌, List, [], ◌∷◌, ◌++◌, length, Some, None, Option}
-use Rattle.std.specs.List.{AllByRecursion as All}
+use Rattle.std.specs.Prelude.{◌≡◌, ℕ, ◌<◌, ◌≤◌, Bool, true, false, not, ◌⊎◌, List, [], ◌∷◌, length, Some}
 use Rattle.event.specs.declared.Message.{Message}
 use Rattle.event.specs.declared.Start.{Start}
 use Rattle.event.specs.declared.Key.{Key}
@@ -8,7 +7,6 @@ use Rattle.event.specs.Keys.{key_of, before}
 use Rattle.event.specs.Lists.{first}
 use Rattle.account.specs.Finds.{find}
 use Rattle.model.specs.Meaning.{Meaning}
-use Rattle.day.specs.Day.{Day}
 use Rattle.account.specs.Orders.{Given, alone_under}
 use Rattle.account.specs.Account.{Account, sent_at}
 

@@ -1,12 +1,8 @@
 -- What is shown of every account.
-use Rattle.std.specs.Prelude.{◌≡◌, ℕ, zero, suc, ◌+◌, ◌*◌, ◌<◌, ◌≤◌, Bool, true, false, not, List, length, Some}
-use Rattle.std.specs.List.{AllByRecursion as All}
-use Rattle.event.specs.declared.Start.{Start}
+use Rattle.std.specs.Prelude.{◌≡◌, ℕ, ◌*◌, ◌≤◌, Bool, true, not, List, length, Some}
 use Rattle.event.specs.declared.Key.{Key}
-use Rattle.event.specs.Keys.{before, same}
-use Rattle.event.specs.Lists.{Rising}
 use Rattle.model.specs.Meaning.{Meaning, Law}
-use Rattle.account.specs.Orders.{Given, alone_under}
+use Rattle.account.specs.Orders.{alone_under}
 use Rattle.account.specs.Account.{Account, Call, After, ind, sum_below, least, runs, reached_by}
 use Rattle.account.specs.Groups.{Groups, copies, worked}
 use Rattle.account.specs.Refusals.{history}

@@ -1,5 +1,5 @@
 -- When a call is denied, and what any list of calls leads to.
-use Rattle.std.specs.Prelude.{◌≡◌, ℕ, zero, suc, ◌+◌, ◌*◌, ◌<◌, ◌≤◌, Bool, true, false, cond, not, ◌&&◌, ◌||◌, List, [], ◌∷◌, length, Some, None, Option, nat_le, nat_lt}
+use Rattle.std.specs.Prelude.{ℕ, suc, ◌+◌, ◌*◌, Bool, false, cond, not, List, [], ◌∷◌, Some, None, Option, nat_le, nat_lt}
 use Rattle.event.specs.declared.Start.{Start}
 use Rattle.event.specs.declared.Key.{Key}
 use Rattle.model.specs.Meaning.{Meaning}

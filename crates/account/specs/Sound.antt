@@ -1,13 +1,9 @@
 -- What holds of every account.
-use Rattle.std.specs.Prelude.{◌≡◌, ℕ, zero, suc, ◌+◌, ◌<◌, ◌≤◌, Bool, true, false, cond, not, ◌&&◌, ◌||◌, eqb, ltb, leb, List, [], ◌∷◌, ◌++◌, map, length, Some, None, Option}
-use Rattle.std.specs.List.{AllByRecursion as All}
+use Rattle.std.specs.Prelude.{◌≡◌, ℕ, ◌<◌, ◌≤◌, true, false, map, Some}
 use Rattle.event.specs.declared.Message.{Message}
 use Rattle.event.specs.declared.Key.{Key}
-use Rattle.event.specs.Keys.{key_of, before}
-use Rattle.event.specs.Lists.{first}
 use Rattle.account.specs.Finds.{find}
-use Rattle.model.specs.Meaning.{Meaning, Law}
-use Rattle.day.specs.Day.{Day}
+use Rattle.model.specs.Meaning.{Meaning}
 use Rattle.day.specs.Alone.{Alone}
 use Rattle.day.specs.Tidy.{Tidy}
 use Rattle.account.specs.Orders.{plain}
@@ -25,7 +21,7 @@ pub record Sound (M : Meaning) (A : Account) : Type 0 where
   pub marked_sym : (v w : ℕ) (k : Key) → A.marked v w k ≡ A.marked w v k
   pub reached_through : (u v w p : ℕ) → A.live u ≡ true → A.live v ≡ true → A.live w ≡ true
       → A.reached u v p ≡ false → A.reached v w p ≡ false → A.reached u w p ≡ false
-  -- among those that wait for the key: by `wait-same`, if one of the three waits then all do
+  -- among those that wait for the key: by `wait_same`, if one of the three waits then all do
   pub marked_through : (u v w : ℕ) (k : Key) (m : Message) → A.live u ≡ true → A.live v ≡ true → A.live w ≡ true
       → find k (A.day u).waiting ≡ Some m → A.marked u v k ≡ false → A.marked v w k ≡ false → A.marked u w k ≡ false
   pub place_same : (v w p : ℕ) → A.live v ≡ true → A.live w ≡ true → A.reached v w p ≡ false → (A.day v).place p ≡ (A.day w).place p

@@ -1,17 +1,15 @@
 -- What the calls do to the messages of one variant, and to the groups.
 use Rattle.std.proofs.Common.{◌≡◌, ℕ, Bool, true, false, cond, not, ◌&&◌, ◌||◌, eqb, ltb, ◌⊎◌, List, [], ◌∷◌, map, length, filter, sym, refl, ap, ◌∙◌, subst, inl, inr, ⊎_elim, arith}
 use Rattle.std.specs.List.{AllByRecursion as All}
-use Rattle.std.proofs.ByRecursion.{All-weaker, all_kept_by}
+use Rattle.std.proofs.ByRecursion.{all_kept_by}
 use Rattle.std.proofs.lemmas.Bool.{cases_Bool, both_ways, cond_both, cond-true, cond-false, eq-eqb}
-use Rattle.event.specs.declared.Message.{Message}
 use Rattle.event.specs.Keys.{key_of, before}
 use Rattle.event.specs.Lists.{insert, Sorted}
 use Rattle.event.proofs.Insertion.{sorted_insert, kept_by_insert, map_insert}
-use Rattle.group.specs.declared.Group.{Group}
-use Rattle.group.specs.Groups.{has, with, without, is_empty}
+use Rattle.group.specs.Groups.{has, with, without}
 use Rattle.group.proofs.Members.{has_above, has_with, has_without, has_not_empty, with_above}
 use Rattle.calendar.specs.declared.Held.{Held}
-use Rattle.calendar.specs.Calls.{key_of_held, waiting, joins, spread, leaves, wanted, erase}
+use Rattle.calendar.specs.Calls.{key_of_held, waiting, joins, spread, leaves, wanted}
 use Rattle.calendar.specs.Laws.{message_of, messages_of, PutLaws, TakeLaws, SpreadLaws, EraseLaws}
 
 -- a map that keeps keys keeps the order

@@ -1,10 +1,10 @@
 -- What the calls do to the messages of one variant, and to the groups.
-use Rattle.std.specs.Prelude.{◌≡◌, ℕ, Bool, true, false, cond, not, ◌&&◌, ◌||◌, List, [], ◌∷◌, map, filter, ◌==◌, nat_lt}
+use Rattle.std.specs.Prelude.{◌≡◌, ℕ, true, false, cond, List, [], ◌∷◌, map, ◌==◌, nat_lt}
 use Rattle.std.specs.List.{AllByRecursion as All}
 use Rattle.event.specs.declared.Message.{Message}
 use Rattle.event.specs.Keys.{key_of}
 use Rattle.event.specs.Lists.{insert, Sorted}
-use Rattle.group.specs.Groups.{has, with, without, is_empty}
+use Rattle.group.specs.Groups.{has}
 use Rattle.calendar.specs.declared.Held.{Held}
 use Rattle.calendar.specs.Calls.{key_of_held, waiting, spread, erase, wanted}
 

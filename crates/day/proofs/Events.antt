@@ -1,19 +1,19 @@
 -- One event, over the cells and lists of a lone day.
-use Rattle.std.proofs.Common.{◌≡◌, ℕ, zero, suc, ◌+◌, ◌*◌, ◌<◌, ◌≤◌, Bool, true, false, cond, eqb, ltb, leb, ◌⊎◌, List, [], ◌∷◌, ◌++◌, length, get_or, set, Some, filter, sym, refl, ap, ◌∙◌, subst, inl, inr, ⊎_elim, arith, get_or-set_other, get_or-set_same}
+use Rattle.std.proofs.Common.{◌≡◌, ℕ, suc, ◌+◌, ◌*◌, ◌<◌, ◌≤◌, true, cond, eqb, ltb, leb, List, [], ◌∷◌, ◌++◌, length, get_or, set, Some, sym, ap, ◌∙◌, subst, ⊎_elim, arith, get_or-set_other, get_or-set_same}
 use Rattle.std.specs.List.{AllByRecursion as All}
 use Rattle.std.proofs.ByRecursion.{All-weaker, all_kept_by, kept_by_passes}
-use Rattle.std.proofs.lemmas.Bool.{cases_eq, cases_lt, cond-true, cond-false, eq-eqb, ne_eqb, lt-ltb, le-ltb, leb-true}
+use Rattle.std.proofs.lemmas.Bool.{cases_eq, cond-true, cond-false, eq-eqb, ne_eqb, lt-ltb, leb-true}
 use Rattle.event.specs.declared.Message.{Message}
 use Rattle.event.specs.Keys.{key_of, blank}
-use Rattle.event.specs.Lists.{insert_all, first, rest}
+use Rattle.event.specs.Lists.{insert_all, rest}
 use Rattle.event.proofs.Insertion.{all_insert_all}
 use Rattle.model.specs.declared.Sent.{Sent}
 use Rattle.model.specs.declared.Sends.{Sends}
 use Rattle.model.specs.declared.Sends.TheVariants.{Nothing, One, Two}
-use Rattle.model.specs.Meaning.{Meaning, Lawful, Within, listed}
+use Rattle.model.specs.Meaning.{Meaning, Within, listed}
 use Rattle.day.specs.declared.place.Place.{Place}
 use Rattle.day.specs.Blank.{blank_place}
-use Rattle.day.specs.Day.{Day, stamped, within, reaction, place_after, sent_by, event_at, ordered, ordered_place, starting_place}
+use Rattle.day.specs.Day.{stamped, within, reaction, place_after, sent_by, event_at, ordered, ordered_place, starting_place}
 use Rattle.day.specs.Held.{held_day}
 use Rattle.day.proofs.Places.{all_by_places, places_by_all, places_set}
 

@@ -1,5 +1,5 @@
 -- A starting list, one message after the other.
-use Rattle.std.proofs.Common.{◌≡◌, ℕ, zero, suc, ◌+◌, ◌*◌, ◌<◌, ◌≤◌, Bool, true, false, cond, ltb, leb, ◌⊎◌, List, [], ◌∷◌, ◌++◌, length, get_or, take, drop, Some, None, Option, sym, refl, ap, ◌∙◌, subst, inl, inr, ⊎_elim, add-suc, add-one, arith, drop-cons}
+use Rattle.std.proofs.Common.{◌≡◌, ℕ, suc, ◌+◌, ◌*◌, ◌<◌, ◌≤◌, true, false, ltb, leb, ◌⊎◌, List, [], ◌∷◌, ◌++◌, length, get_or, take, drop, Some, None, Option, sym, refl, ap, ◌∙◌, subst, inl, inr, ⊎_elim, add-one, arith, drop-cons}
 use Rattle.std.specs.List.{AllByRecursion as All}
 use Rattle.std.proofs.lemmas.List.{get_or_past, take_more, length-take-le}
 use Rattle.std.proofs.lemmas.Bool.{cases_Bool, cases_lt, cond_both, cond-true, cond-false, leb-false, ltb-false, ltb-true}
@@ -13,7 +13,7 @@ use Rattle.model.specs.Meaning.{Meaning}
 use Rattle.day.specs.declared.fault.DayFault.{DayFault}
 use Rattle.day.specs.declared.place.Place.{Place}
 use Rattle.day.specs.Blank.{blank_place}
-use Rattle.day.specs.Day.{Day, starting, starting_place}
+use Rattle.day.specs.Day.{starting, starting_place}
 use Rattle.day.specs.Held.{held_day}
 use Rattle.day.proofs.Numbers.{numbered_all}
 use Rattle.day.proofs.Places.{none_some, places_by_all}

@@ -1,5 +1,5 @@
 -- Every day run alone is tidy.
-use Rattle.std.proofs.Common.{◌≡◌, ℕ, zero, suc, ◌+◌, ◌<◌, ◌≤◌, true, cond, eqb, leb, List, [], ◌∷◌, ◌++◌, length, Some, None, Option, sym, refl, ap, ◌∙◌, subst, append_assoc, arith}
+use Rattle.std.proofs.Common.{◌≡◌, ℕ, suc, ◌+◌, ◌<◌, ◌≤◌, true, eqb, leb, List, [], ◌∷◌, ◌++◌, length, Some, None, Option, sym, refl, ap, ◌∙◌, subst, append_assoc, arith}
 use Rattle.std.specs.List.{AllByRecursion as All}
 use Rattle.std.proofs.ByRecursion.{All-weaker, all_kept_by, All-push}
 use Rattle.std.proofs.lemmas.Bool.{cond_both, cond-true, eq-eqb, eqb-true}
@@ -7,14 +7,14 @@ use Rattle.event.specs.declared.Key.{Key}
 use Rattle.event.specs.declared.Message.{Message}
 use Rattle.event.specs.declared.Start.{Start}
 use Rattle.event.specs.Keys.{key_of, before}
-use Rattle.event.specs.Lists.{first, rest, insert_all, Rising, Distinct}
+use Rattle.event.specs.Lists.{first, rest, Rising}
 use Rattle.event.specs.Starts.{numbered}
 use Rattle.event.proofs.Insertion.{all_insert_all, rising_insert_all, rising_front, distinct_kept_by}
 use Rattle.event.proofs.Orders.{chain, sooner}
 use Rattle.model.specs.declared.Sent.{Sent}
 use Rattle.model.specs.Meaning.{Meaning, Law, Within, listed}
 use Rattle.day.specs.declared.place.Place.{Place}
-use Rattle.day.specs.Day.{Day, arrival_of, stamped, within, reaction, sent_by, place_after, event_at, event, ordered, ordered_place, starting}
+use Rattle.day.specs.Day.{Day, arrival_of, stamped, within, reaction, place_after, event_at, event, ordered, ordered_place, starting}
 use Rattle.day.specs.Alone.{Deed, run, give, done}
 use Rattle.day.specs.Tidy.{Tidy}
 use Rattle.day.proofs.Events.{all_rest, stamped_receivers}

@@ -1,5 +1,5 @@
 -- The day run alone under a list of orders, and what any mixture of events and orders makes of a day.
-use Rattle.std.specs.Prelude.{◌≡◌, ℕ, zero, suc, ◌≤◌, cond, List, [], ◌∷◌, ◌++◌, length, ◌==◌}
+use Rattle.std.specs.Prelude.{◌≡◌, ℕ, zero, suc, ◌≤◌, cond, List, [], ◌∷◌, length, ◌==◌}
 use Rattle.std.specs.List.{AllByRecursion as All}
 use Rattle.event.specs.declared.Start.{Start}
 use Rattle.model.specs.Meaning.{Meaning}

@@ -1,5 +1,5 @@
 -- What the calls of a lone day answer.
-use Rattle.std.specs.Prelude.{ℕ, cond, List, length, Some, None, Ok, Err, Option, Result, nat_lt, slice_index_or}
+use Rattle.std.specs.Prelude.{ℕ, cond, length, Some, None, Ok, Err, Option, Result, nat_lt, slice_index_or}
 use Rattle.event.specs.declared.Message.{Message}
 use Rattle.event.specs.Keys.{blank}
 use Rattle.event.specs.Lists.{first}

@@ -1,5 +1,5 @@
 -- The number, layer and position of each refusal of a day, and when each comes.
-use Rattle.std.specs.Prelude.{ℕ, suc, ◌+◌, ◌-◌, cond, List, [], ◌∷◌, length, Some, None, Option, nat_le, nat_lt}
+use Rattle.std.specs.Prelude.{ℕ, suc, ◌+◌, ◌-◌, cond, List, [], ◌∷◌, Some, None, Option, nat_le, nat_lt}
 use Rattle.event.specs.declared.Start.{Start}
 use Rattle.refusal.specs.declared.Layer.TheVariants.{Calendar, Study}
 use Rattle.refusal.specs.declared.Refusal.{Refusal}

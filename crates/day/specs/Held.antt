@@ -1,5 +1,5 @@
 -- What a lone day holds, as a day.
-use Rattle.std.specs.Prelude.{ℕ, cond, List, vec_items, nat_lt, slice_index_or}
+use Rattle.std.specs.Prelude.{cond, List, vec_items, nat_lt, slice_index_or}
 use Rattle.event.specs.declared.Message.{Message}
 use Rattle.model.specs.Meaning.{Meaning}
 use Rattle.day.specs.declared.place.Place.{Place}

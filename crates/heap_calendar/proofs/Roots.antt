@@ -1,16 +1,15 @@
 -- The first and the second of a heap.
-use Rattle.std.proofs.Common.{◌≡◌, ℕ, zero, suc, ◌+◌, ◌-◌, ◌/◌, ◌<◌, ◌≤◌, Bool, true, false, cond, ◌⊎◌, List, [], ◌∷◌, length, get_or, Some, None, Option, sym, refl, ap, ◌∙◌, subst, inl, inr, ⊎_elim, arith}
-use Rattle.std.specs.List.{AllByRecursion as All}
-use Rattle.std.proofs.lemmas.Bool.{cases_Bool, both_ways, cases_lt}
+use Rattle.std.proofs.Common.{◌≡◌, ℕ, zero, suc, ◌-◌, ◌/◌, ◌<◌, ◌≤◌, true, false, List, [], ◌∷◌, length, get_or, Some, None, sym, refl, ap, ◌∙◌, ⊎_elim, arith}
+use Rattle.std.proofs.lemmas.Bool.{cases_Bool, both_ways}
 use Rattle.std.proofs.ByRecursion.{All-from_get_or}
 use Rattle.event.specs.Lists.{first as head}
 use Rattle.calendar.specs.Calls.{at}
-use Rattle.slot.specs.Rank.{ranked, ins}
+use Rattle.slot.specs.Rank.{ranked}
 use Rattle.slot.proofs.Ranks.{ins_front, all_ranked}
 use Rattle.slot.specs.declared.Slot.{Slot}
 use Rattle.slot.specs.Slots.{earlier}
 use Rattle.slot.specs.Laws.{strictly}
-use Rattle.slot.proofs.Picks.{never_self, through, at_zero}
+use Rattle.slot.proofs.Picks.{never_self, through}
 use Rattle.slot.proofs.Puts.{first_least}
 use Rattle.heap_calendar.specs.Totals.{Heapy, blank}
 use Rattle.heap_calendar.proofs.Steps.{not_less}

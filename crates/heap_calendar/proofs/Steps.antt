@@ -1,22 +1,18 @@
 -- A heap of slots under a push and a pop.
-use Rattle.std.proofs.Common.{◌≡◌, ℕ, zero, suc, ◌+◌, ◌-◌, ◌*◌, ◌/◌, ◌<◌, ◌≤◌, Bool, true, false, cond, ◌&&◌, ◌||◌, eqb, ltb, ◌⊎◌, List, [], ◌∷◌, ◌++◌, length, get_or, take, Some, None, Option, Ordering, Less, Equal, Greater, sym, refl, ap, ◌∙◌, subst, inl, inr, ⊎_elim, arith, MatchOption}
-use lib.Bits.{bit_or, bit_and}
-use Rattle.std.specs.List.{AllWithin, AllByRecursion as All}
+use Rattle.std.proofs.Common.{◌≡◌, ℕ, ◌+◌, ◌-◌, ◌/◌, ◌<◌, Bool, true, false, List, [], ◌∷◌, length, get_or, Some, None, Option, sym, refl, ap, ◌∙◌, subst, arith, MatchOption}
+use Rattle.std.specs.List.{AllByRecursion as All}
 use Rattle.std.specs.List.Sorted.{IsPermutation}
-use Rattle.std.specs.Slice.Heapsort.{IsHeapWithin}
-use Rattle.std.specs.Cmp.{IsTotalOrder}
 use Rattle.std.specs.BinaryHeap.{IsHeap, IsUpperBound, PopsGreatest, KeepsHeap}
 use Rattle.std.specs.Option.{option_map}
 use Rattle.std.specs.Prelude.{IfSome, IfNone, OnSome}
-use Rattle.std.specs.Ordering.{is_lt, ordering_reverse}
-use Rattle.std.proofs.lemmas.Bool.{cases_Bool, both_ways, cond_both}
-use Rattle.std.proofs.lemmas.Bool.Decides.{nat_tests}
-use Rattle.std.proofs.lemmas.List.{get_or_default, append_assoc}
+use Rattle.std.specs.Ordering.{is_lt}
+use Rattle.std.proofs.lemmas.Bool.{both_ways}
+use Rattle.std.proofs.lemmas.List.{get_or_default}
 use Rattle.std.proofs.ByRecursion.{all_shuffled, All-weaker, every_from_all, all_from_every}
-use Rattle.slot.specs.Rank.{ins, ranked}
+use Rattle.slot.specs.Rank.{ranked}
 use Rattle.slot.proofs.Ranks.{ranked_shuffled, ins_front, all_ranked}
 use Rattle.slot.specs.declared.Slot.{Slot}
-use Rattle.slot.specs.Slots.{earlier, turned, steady, Young, bare, bares, in_order}
+use Rattle.slot.specs.Slots.{earlier, turned, steady, bare, bares, in_order}
 use Rattle.event.specs.Lists.{rest, first as head}
 use Rattle.slot.specs.Laws.{strictly, by}
 use Rattle.slot.proofs.Holds.{steady_push, steady_tail}

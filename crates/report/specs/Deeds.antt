@@ -1,5 +1,5 @@
 -- What an event of a collection day was, by its message and what its receiver sent.
-use Rattle.std.specs.Prelude.{ℕ, ◌-◌, Bool, cond, Some, None, Option, ◌==◌, nat_le}
+use Rattle.std.specs.Prelude.{ℕ, ◌-◌, cond, Some, None, Option, ◌==◌, nat_le}
 use Rattle.event.specs.declared.Message.{Message}
 use Rattle.event.specs.Lists.{first}
 use Rattle.model.specs.declared.Sent.{Sent}

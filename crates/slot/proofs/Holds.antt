@@ -1,20 +1,17 @@
 -- What an array of slots holds, in order, and what a put, a change and a choice make of it.
-use Rattle.std.proofs.Common.{◌≡◌, ℕ, zero, suc, ◌+◌, ◌<◌, ◌≤◌, Bool, true, false, cond, ◌&&◌, ◌||◌, eqb, ltb, ◌⊎◌, List, [], ◌∷◌, ◌++◌, length, get_or, take, Some, None, filter, Option, sym, refl, ap, ◌∙◌, subst, inl, inr, ⊎_elim, arith}
-use Rattle.std.specs.List.{AllWithin, AllByRecursion as All}
+use Rattle.std.proofs.Common.{◌≡◌, ℕ, zero, suc, ◌<◌, Bool, true, false, cond, ◌⊎◌, List, [], ◌∷◌, ◌++◌, length, get_or, take, filter, sym, refl, ap, ◌∙◌, inl, inr, arith}
+use Rattle.std.specs.List.{AllByRecursion as All}
 use Rattle.std.specs.List.Sorted.{IsPermutation}
 use Rattle.std.specs.Option.{option_map}
-use Rattle.std.proofs.lemmas.Bool.{cases_Bool, both_ways, cond_both, eq-eqb, and_from}
-use Rattle.std.proofs.lemmas.Bool.Decides.{nat_tests}
+use Rattle.std.proofs.lemmas.Bool.{cases_Bool, cond_both}
 use Rattle.std.proofs.ByRecursion.{All-weaker, all_from_every}
 use Rattle.group.specs.Groups.{has}
 use Rattle.calendar.specs.declared.Held.{Held}
-use Rattle.event.specs.declared.Message.{Message}
-use Rattle.event.specs.Lists.{first as head}
 use Rattle.event.specs.Lists.{insert, Sorted}
-use Rattle.event.specs.Keys.{then, before, same}
+use Rattle.event.specs.Keys.{before, same}
 use Rattle.calendar.specs.Calls.{key_of_held, at, leading, waiting}
 use Rattle.slot.specs.Rank.{ins, ranked, Rising}
-use Rattle.slot.proofs.Ranks.{ranked_shuffled, ins_front, all_ins, all_ranked, ranked_rising, length_ranked}
+use Rattle.slot.proofs.Ranks.{ranked_shuffled, all_ins, all_ranked, ranked_rising, length_ranked}
 use Rattle.slot.specs.declared.Slot.{Slot}
 use Rattle.slot.specs.declared.pick.Pick.TheVariants.{Waiting, Like}
 use Rattle.slot.specs.Slots.{key_of_slot, earlier, ahead, steady, bare, bares, in_order, Young}

@@ -1,17 +1,16 @@
 -- The steps of the loops that choose among slots.
-use Rattle.std.proofs.Common.{◌≡◌, ℕ, zero, suc, ◌+◌, ◌<◌, ◌≤◌, Bool, true, false, cond, ◌&&◌, ◌||◌, eqb, ltb, ◌⊎◌, List, [], ◌∷◌, ◌++◌, length, get_or, take, is_some, Some, None, filter, Option, sym, refl, ap, ◌∙◌, subst, inl, inr, ⊎_elim, add-one, arith}
+use Rattle.std.proofs.Common.{◌≡◌, ℕ, ◌+◌, ◌<◌, ◌≤◌, Bool, true, false, ◌&&◌, List, [], ◌∷◌, length, get_or, take, is_some, Some, None, filter, Option, sym, refl, ap, ◌∙◌, add-one}
 use Rattle.std.specs.List.{AllByRecursion as All}
 use Rattle.std.proofs.lemmas.List.{take_more}
 use Rattle.std.proofs.ByRecursion.{All-weaker}
-use Rattle.std.proofs.lemmas.Bool.{cases_Bool, both_ways, and_parts, and_from}
-use Rattle.std.proofs.lemmas.Bool.Decides.{nat_tests}
+use Rattle.std.proofs.lemmas.Bool.{both_ways, and_parts, and_from}
 use Rattle.event.specs.Lists.{first as head}
 use Rattle.calendar.specs.Calls.{at}
 use Rattle.slot.specs.Rank.{ranked}
 use Rattle.slot.specs.declared.Slot.{Slot}
 use Rattle.slot.specs.declared.pick.Pick.{Pick}
 use Rattle.slot.specs.Slots.{earlier, ahead, leads_all, steady, sooner}
-use Rattle.slot.specs.Passes.{passes, beyond, admits}
+use Rattle.slot.specs.Passes.{passes, admits}
 use Rattle.slot.specs.Laws.{strictly, ahead_earlier}
 use Rattle.slot.proofs.Picks.{Climbs, climbs_kept, kept_both, kept_same, first_yes, first_no, next_at, at_none, at_zero}
 

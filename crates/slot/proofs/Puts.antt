@@ -1,17 +1,16 @@
 -- When a calendar of 512 accepts, and the second of those with the smallest key.
-use Rattle.std.proofs.Common.{◌≡◌, ℕ, zero, suc, ◌+◌, ◌<◌, ◌≤◌, Bool, true, false, cond, ◌&&◌, ◌||◌, eqb, ltb, ◌⊎◌, List, [], ◌∷◌, length, get_or, Some, None, filter, Option, sym, refl, ap, ◌∙◌, subst, inl, inr, ⊎_elim, arith}
+use Rattle.std.proofs.Common.{◌≡◌, ℕ, zero, suc, ◌<◌, ◌≤◌, Bool, true, false, cond, ltb, ◌⊎◌, List, [], ◌∷◌, length, get_or, Some, None, filter, Option, sym, refl, ap, ◌∙◌, subst, inl, inr, ⊎_elim, arith}
 use Rattle.std.specs.List.{AllByRecursion as All}
 use Rattle.std.specs.Option.{option_map}
 use Rattle.std.proofs.lemmas.Bool.{cases_Bool, both_ways, lt-ltb, le-ltb, and_from, and_left, and_right}
-use Rattle.std.proofs.lemmas.Bool.Decides.{nat_tests}
 use Rattle.calendar.specs.declared.Held.{Held}
 use Rattle.event.specs.declared.Key.{Key}
 use Rattle.event.proofs.Orders.{apart, same_from, same_not, same_refl}
 use Rattle.event.specs.Lists.{first as head}
-use Rattle.event.specs.Lists.{insert, Sorted}
-use Rattle.event.specs.Keys.{then, before, same}
+use Rattle.event.specs.Lists.{Sorted}
+use Rattle.event.specs.Keys.{before, same}
 use Rattle.calendar.specs.Calls.{key_of_held, accepts, at, leading}
-use Rattle.slot.specs.Rank.{ins, ranked, Strict}
+use Rattle.slot.specs.Rank.{ranked, Strict}
 use Rattle.slot.proofs.Ranks.{all_ranked}
 use Rattle.slot.specs.declared.Slot.{Slot}
 use Rattle.slot.specs.Slots.{key_of_slot, earlier, bare, bares, in_order, sooner}

@@ -4,7 +4,7 @@ use Rattle.std.proofs.lemmas.Bool.{cases_Bool, both_ways}
 use Rattle.std.proofs.lemmas.Bool.Decides.{nat_tests}
 use Rattle.event.specs.declared.Key.{Key}
 use Rattle.event.specs.Keys.{before, same, then}
-use Rattle.event.proofs.Orders.{never, chain, apart, through, not_back, before_ne, same_true, same_from, same_not, same_refl}
+use Rattle.event.proofs.Orders.{never, chain, apart, not_back, before_ne, same_from, same_not}
 use Rattle.slot.specs.declared.Slot.{Slot}
 use Rattle.slot.specs.Rank.{Strict}
 use Rattle.slot.specs.Slots.{key_of_slot, by_key, last, earlier, ahead, turned}

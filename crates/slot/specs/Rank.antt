@@ -1,5 +1,5 @@
 -- Lists in a strict order.
-use Rattle.std.specs.Prelude.{◌≡◌, Bool, true, false, cond, ◌⊎◌, List, [], ◌∷◌}
+use Rattle.std.specs.Prelude.{◌≡◌, Bool, true, false, cond, List, [], ◌∷◌}
 use Rattle.std.specs.List.{AllByRecursion as All}
 
 module _ {X : Type 0} (lt : X → X → Bool) where

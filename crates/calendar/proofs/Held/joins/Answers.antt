@@ -1,8 +1,7 @@
 -- c joins where v is in the group.
-use Rattle.std.proofs.Common.{◌≡◌, sym, ap, ◌∙◌}
+use Rattle.std.proofs.Common.{sym, ap, ◌∙◌}
 use Rattle.std.proofs.lemmas.Bool.{cond-true, cond-false}
 use Rattle.group.specs.declared.Group.{Group}
-use Rattle.calendar.specs.declared.Held.{Held}
 use Rattle.calendar.proofs.Variants.{spread_laws}
 use Rattle.calendar.proofs.Held.joins.Goals as goal
 

@@ -1,5 +1,5 @@
 -- v leaves the group.
-use Rattle.std.proofs.Common.{◌≡◌, sym, ap, ◌∙◌}
+use Rattle.std.proofs.Common.{ap}
 use Rattle.group.specs.declared.Group.{Group}
 use Rattle.calendar.proofs.Variants.{erase_laws}
 use Rattle.calendar.proofs.Held.leaves.Goals as goal

@@ -1,5 +1,5 @@
 -- There is room for each, so each is inserted.
-use Rattle.std.proofs.Common.{◌≡◌, true, ltb, List, [], take, vec_items, vec_len, vec_capacity, sym, refl, ap, ◌∙◌, arith}
+use Rattle.std.proofs.Common.{◌≡◌, true, ltb, List, [], vec_items, vec_len, vec_capacity, sym, ap, ◌∙◌, arith}
 use Rattle.std.proofs.lemmas.List.{take_all}
 use Rattle.std.proofs.lemmas.Bool.{cond-true, lt-ltb}
 use Rattle.event.specs.declared.Message.{Message}

@@ -1,5 +1,5 @@
 -- There is room, so m is inserted where it is in time.
-use Rattle.std.proofs.Common.{◌≡◌, true, ltb, leb, List, [], ◌∷◌, vec_items, vec_len, vec_capacity, sym, ap, ◌∙◌, arith}
+use Rattle.std.proofs.Common.{◌≡◌, true, ltb, leb, List, vec_items, vec_len, vec_capacity, sym, ap, ◌∙◌, arith}
 use Rattle.std.proofs.lemmas.Bool.{le-leb, lt-ltb, cond-true}
 use Rattle.event.specs.declared.Message.{Message}
 use Rattle.event.specs.Keys.{key_of}

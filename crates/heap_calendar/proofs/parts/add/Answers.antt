@@ -1,5 +1,4 @@
 -- A push keeps the heap sound.
-use Rattle.std.proofs.Common.{arith, rules}
 use Rattle.slot.proofs.Holds.{pushed}
 use Rattle.heap_calendar.proofs.Steps.{sound_push}
 use Rattle.heap_calendar.proofs.parts.add.Goals as goal

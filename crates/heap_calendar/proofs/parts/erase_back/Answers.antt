@@ -1,13 +1,11 @@
 -- What is left goes behind those before it.
-use Rattle.std.proofs.Common.{◌≡◌, ◌+◌, ◌-◌, ◌^◌, ◌<◌, ◌≤◌, eqb, map, length, get_or, take, heap_items, heap_len, filter, sym, refl, ap, ◌∙◌, subst, arith, rules}
-use lib.Bits.{bit_and}
+use Rattle.std.proofs.Common.{◌≡◌, ◌+◌, ◌<◌, map, length, get_or, heap_items, heap_len, filter, sym, refl, ap, ◌∙◌, arith}
 use Rattle.std.proofs.lemmas.List.{take_all}
-use Rattle.std.proofs.lemmas.Bool.{eq-eqb, ne_eqb}
 use Rattle.event.specs.Lists.{insert}
 use Rattle.calendar.specs.Calls.{key_of_held, leaves, wanted}
 use Rattle.slot.specs.Slots.{bare, bares, in_order}
 use Rattle.slot.proofs.Holds.{length_bares}
-use Rattle.heap_calendar.specs.Totals.{Sound, blank}
+use Rattle.heap_calendar.specs.Totals.{blank}
 use Rattle.std.specs.BinaryHeap.{heap_capacity}
 use Rattle.heap_calendar.proofs.Steps.{sound_none, sound_moved}
 use Rattle.heap_calendar.proofs.Backs.{kept_more, dropped_more, bares_get_or}

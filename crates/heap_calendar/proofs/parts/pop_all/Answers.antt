@@ -1,9 +1,8 @@
 -- What is out, and then the rest in order, is the whole in order.
-use Rattle.std.proofs.Common.{◌≡◌, List, [], ◌∷◌, ◌++◌, length, vec_items, vec_len, vec_capacity, heap_items, heap_len, sym, refl, ap, ◌∙◌, subst, arith}
+use Rattle.std.proofs.Common.{◌≡◌, [], ◌∷◌, ◌++◌, length, vec_items, heap_items, sym, refl, ap, ◌∙◌, arith}
 use Rattle.std.proofs.lemmas.List.{append_assoc, append-nil, nil_from_length}
 use Rattle.slot.specs.Rank.{ranked}
 use Rattle.slot.specs.Slots.{earlier}
-use Rattle.std.specs.BinaryHeap.{heap_capacity}
 use Rattle.heap_calendar.proofs.Steps.{popped_heap}
 use Rattle.heap_calendar.proofs.parts.pop_all.Goals as goal
 

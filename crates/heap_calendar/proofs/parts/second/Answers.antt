@@ -1,5 +1,5 @@
 -- The earlier child of the root is the second.
-use Rattle.std.proofs.Common.{◌≡◌, get_or, sym, refl, ap, ◌∙◌, arith}
+use Rattle.std.proofs.Common.{get_or, sym, refl, arith}
 use Rattle.slot.specs.Laws.{strictly}
 use Rattle.slot.proofs.Picks.{never_self}
 use Rattle.slot.specs.Slots.{earlier}

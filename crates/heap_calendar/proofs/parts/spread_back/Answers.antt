@@ -1,5 +1,5 @@
 -- Each goes behind those before it.
-use Rattle.std.proofs.Common.{◌≡◌, ◌+◌, ◌<◌, ◌≤◌, map, length, get_or, take, heap_items, heap_len, sym, refl, ap, ◌∙◌, subst, arith, rules}
+use Rattle.std.proofs.Common.{◌≡◌, ◌<◌, map, length, heap_items, sym, ap, ◌∙◌, subst, arith}
 use Rattle.std.proofs.lemmas.List.{take_all}
 use Rattle.event.specs.Keys.{key_of}
 use Rattle.event.specs.Lists.{insert}
@@ -8,7 +8,6 @@ use Rattle.calendar.proofs.Variants.{joins_message}
 use Rattle.slot.specs.Slots.{bare, bares, in_order}
 use Rattle.slot.proofs.Holds.{length_bares}
 use Rattle.heap_calendar.specs.Totals.{Sound, blank}
-use Rattle.std.specs.BinaryHeap.{heap_capacity}
 use Rattle.heap_calendar.proofs.Steps.{sound_none}
 use Rattle.heap_calendar.proofs.Backs.{map_more, bares_get_or}
 use Rattle.heap_calendar.proofs.parts.spread_back.Goals as goal

@@ -1,10 +1,9 @@
 -- One farm more, and all of them.
-use Rattle.std.proofs.Common.{◌≡◌, ℕ, ◌-◌, List, [], ◌∷◌, ◌++◌, get_or, vec_items, sym, ap, ◌∙◌, arith}
+use Rattle.std.proofs.Common.{◌≡◌, ℕ, ◌-◌, [], ◌∷◌, ◌++◌, get_or, vec_items, ap, ◌∙◌, arith}
 use Rattle.collection.specs.declared.Collection.{Collection}
 use Rattle.collection.specs.Rules.{meaning_of}
 use Rattle.day.specs.declared.place.Place.{Place}
 use Rattle.day.specs.Held.{day_of}
-use Rattle.report.specs.declared.figures.Fact.{Fact}
 use Rattle.report.specs.declared.figures.Fact.TheVariants.{Left}
 use Rattle.report.specs.Summary.{left_facts}
 use Rattle.report.proofs.Rows.{row_more}

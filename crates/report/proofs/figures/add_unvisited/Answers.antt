@@ -1,5 +1,5 @@
 -- One farm more, and all of them.
-use Rattle.std.proofs.Common.{◌≡◌, ℕ, ◌-◌, List, ◌++◌, vec_items, sym, ap, ◌∙◌, arith}
+use Rattle.std.proofs.Common.{◌≡◌, ℕ, ◌-◌, ◌++◌, vec_items, sym, ap, ◌∙◌, arith}
 use Rattle.report.specs.Summary.{unvisited_up_to}
 use Rattle.report.proofs.Rows.{row_yes, row_no}
 use Rattle.report.proofs.figures.add_unvisited.Goals as goal

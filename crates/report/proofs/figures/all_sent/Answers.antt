@@ -1,5 +1,5 @@
 -- One place more, and all of them.
-use Rattle.std.proofs.Common.{◌≡◌, ℕ, ◌+◌, ◌≤◌, sym, ap, ◌∙◌, arith}
+use Rattle.std.proofs.Common.{◌≡◌, ℕ, ◌+◌, sym, ap, ◌∙◌, arith}
 use Rattle.collection.specs.declared.Collection.{Collection}
 use Rattle.collection.specs.Rules.{meaning_of}
 use Rattle.day.specs.declared.place.Place.{Place}

@@ -1,5 +1,5 @@
 -- The figures, one after the other.
-use Rattle.std.proofs.Common.{◌≡◌, ℕ, ◌+◌, List, [], ◌∷◌, ◌++◌, get_or, vec_items, Option, sym, ap, ◌∙◌}
+use Rattle.std.proofs.Common.{◌≡◌, ℕ, List, [], ◌∷◌, ◌++◌, get_or, vec_items, Option, ap, ◌∙◌}
 use Rattle.event.specs.declared.Message.{Message}
 use Rattle.collection.specs.declared.Collection.{Collection}
 use Rattle.collection.specs.Rules.{meaning_of}
@@ -8,7 +8,7 @@ use Rattle.day.specs.Day.{Day}
 use Rattle.day.specs.Held.{day_of}
 use Rattle.report.specs.declared.figures.Fact.{Fact}
 use Rattle.report.specs.declared.figures.Fact.TheVariants.{Received, LastUnloading, Events, Lost}
-use Rattle.report.specs.Summary.{left_facts, unvisited_up_to, last_unloading_of, lost}
+use Rattle.report.specs.Summary.{left_facts, unvisited_up_to, last_unloading_of}
 use Rattle.report.proofs.Rows.{pieced}
 use Rattle.report.proofs.figures.summary.Goals as goal
 

@@ -1,9 +1,9 @@
 -- The keys decide, then age, kind, data and group where those before are equal.
-use Rattle.std.proofs.Common.{◌≡◌, Bool, true, false, ltb, sym, refl, ap, ◌∙◌}
+use Rattle.std.proofs.Common.{◌≡◌, Bool, ltb, sym, ap, ◌∙◌}
 use Rattle.event.specs.declared.Key.{Key}
 use Rattle.event.specs.Keys.{before}
 use Rattle.event.proofs.Orders.{then_differ, then_equal}
-use Rattle.slot.specs.Slots.{key_of_slot, earlier}
+use Rattle.slot.specs.Slots.{earlier}
 use Rattle.slot.specs.Laws.{by_first, by_later, by_rest}
 use Rattle.slot.proofs.order.comes_before.Goals as goal
 

@@ -1,5 +1,5 @@
 -- The first so far of those that are meant.
-use Rattle.std.proofs.Common.{◌≡◌, filter, sym, refl, ap, ◌∙◌}
+use Rattle.std.proofs.Common.{filter, sym, ap, ◌∙◌}
 use Rattle.std.proofs.lemmas.List.{take_all}
 use Rattle.event.specs.Lists.{first as head}
 use Rattle.slot.specs.Rank.{ranked}

@@ -1,5 +1,5 @@
 -- Each turn finds the next.
-use Rattle.std.proofs.Common.{◌≡◌, sym, refl, ap, ◌∙◌, arith}
+use Rattle.std.proofs.Common.{◌∙◌}
 use Rattle.slot.proofs.Nths.{nth_next, nth_none, nth_start}
 use Rattle.slot.proofs.pick.nth.Goals as goal
 

@@ -1,11 +1,10 @@
 -- What the first message does is the event, and the day stays alone and tidy.
-use Rattle.std.proofs.Common.{◌≡◌, true, false, Some, None, Ok, vec_items, Option, sym, refl, ap, ◌∙◌, subst, arith}
+use Rattle.std.proofs.Common.{◌≡◌, Some, Ok, Option, sym, ap, ◌∙◌, subst}
 use Rattle.std.proofs.lemmas.Bool.{true≢false}
 use Rattle.event.specs.declared.Message.{Message}
 use Rattle.model.specs.declared.Sends.{Sends}
 use Rattle.model.specs.Meaning.{Meaning, Law}
 use Rattle.day.specs.declared.fault.DayFault.{DayFault}
-use Rattle.day.specs.declared.place.Ran.{Ran}
 use Rattle.day.specs.Alone.{Alone}
 use Rattle.day.specs.Answers.{ran_at, unless}
 use Rattle.day.specs.Day.{Day, event_at, event, reaction}

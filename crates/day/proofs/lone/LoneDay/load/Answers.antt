@@ -1,5 +1,5 @@
 -- What is not refused fits, so the day begins as it should.
-use Rattle.std.proofs.Common.{◌≡◌, ℕ, ◌<◌, ◌≤◌, List, [], length, None, vec_items, Option, sym, refl, ap, ◌∙◌, subst, arith}
+use Rattle.std.proofs.Common.{◌≡◌, ℕ, ◌<◌, ◌≤◌, List, [], length, None, vec_items, sym, refl, subst, arith}
 use Rattle.event.specs.declared.Message.{Message}
 use Rattle.event.specs.declared.Start.{Start}
 use Rattle.model.specs.Meaning.{Meaning, Law}

@@ -1,12 +1,12 @@
 -- One cell is written, and the day stays alone and tidy.
-use Rattle.std.proofs.Common.{◌≡◌, ℕ, ◌<◌, ◌≤◌, true, false, ltb, List, [], ◌∷◌, ◌++◌, length, get_or, set, vec_items, vec_len, sym, refl, ap, ◌∙◌, subst, arith}
+use Rattle.std.proofs.Common.{◌≡◌, ℕ, ◌<◌, ◌≤◌, length, get_or, set, vec_items, sym, refl, ap, ◌∙◌, subst, arith}
 use Rattle.std.proofs.lemmas.List.{get_or_default}
 use Rattle.std.proofs.lemmas.Bool.{true≢false, lt-ltb, cond-true}
 use Rattle.model.specs.Meaning.{Meaning}
 use Rattle.day.specs.declared.place.Place.{Place}
 use Rattle.day.specs.Blank.{blank_place}
-use Rattle.day.specs.Alone.{Alone, order_now}
-use Rattle.day.specs.Day.{Day, ordered, ordered_place}
+use Rattle.day.specs.Alone.{Alone}
+use Rattle.day.specs.Day.{Day, ordered_place}
 use Rattle.day.specs.Held.{day_of}
 use Rattle.day.specs.Tidy.{Tidy}
 use Rattle.day.proofs.Alone.{alone_order}

@@ -1,16 +1,16 @@
 -- The first message runs at its cell: one lemma for each part of the day.
-use Rattle.std.proofs.Common.{◌≡◌, ℕ, ◌+◌, ◌*◌, ◌^◌, ◌<◌, ◌≤◌, List, [], ◌∷◌, ◌++◌, length, get_or, set, vec_items, vec_len, vec_capacity, sym, refl, ap, ◌∙◌, subst, arith}
+use Rattle.std.proofs.Common.{◌≡◌, ℕ, ◌<◌, ◌≤◌, List, length, get_or, vec_items, vec_len, sym, refl, ap, ◌∙◌, arith}
 use Rattle.event.specs.declared.Message.{Message}
 use Rattle.event.specs.Keys.{blank}
 use Rattle.event.specs.Keys.{key_of}
 use Rattle.event.specs.Lists.{insert_all, rest}
-use Rattle.model.specs.Meaning.{Lawful, listed}
+use Rattle.model.specs.Meaning.{listed}
 use Rattle.model.specs.declared.Sends.{Sends}
 use Rattle.day.specs.Day.{reaction, stamped, sent_by, within}
 use Rattle.day.specs.declared.place.Place.{Place}
 use Rattle.day.specs.Blank.{blank_place}
-use Rattle.day.proofs.Places.{place_first, places_set}
-use Rattle.day.proofs.Events.{few_sends, held_place, held_event, still_counted, stamped_receivers, still_timely, still_placed}
+use Rattle.day.proofs.Places.{place_first}
+use Rattle.day.proofs.Events.{held_place, held_event, still_counted, stamped_receivers, still_timely, still_placed}
 use Rattle.day.proofs.lone.LoneDay.run_first.Goals as goal
 
 pub run_cell-number-requires : goal.run_cell-number-requires

@@ -1,5 +1,5 @@
 -- As many as the array has.
-use Rattle.std.proofs.Common.{◌≡◌, heap_items, sym, ◌∙◌}
+use Rattle.std.proofs.Common.{heap_items, sym, ◌∙◌}
 use Rattle.slot.proofs.Holds.{length_in_order}
 use Rattle.heap_calendar.proofs.calendar_impl.HeapCalendarCalendar.count.Goals as goal
 

@@ -1,5 +1,5 @@
 -- An empty heap is sound.
-use Rattle.std.proofs.Common.{◌≡◌, sym, ap, ◌∙◌, arith}
+use Rattle.std.proofs.Common.{arith}
 use Rattle.heap_calendar.proofs.Steps.{sound_none}
 use Rattle.heap_calendar.proofs.calendar_impl.HeapCalendarCalendar.empty.Goals as goal
 

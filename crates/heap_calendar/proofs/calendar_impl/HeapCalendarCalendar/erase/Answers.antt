@@ -1,5 +1,5 @@
 -- All out in order, and what is left in again.
-use Rattle.std.proofs.Common.{◌≡◌, ◌<◌, ◌≤◌, length, heap_items, heap_len, sym, refl, ap, ◌∙◌, subst, arith}
+use Rattle.std.proofs.Common.{◌≡◌, ◌≤◌, length, heap_items, sym, ap, ◌∙◌, subst, arith}
 use Rattle.slot.specs.Rank.{ranked}
 use Rattle.slot.proofs.Ranks.{length_ranked}
 use Rattle.event.specs.Lists.{Sorted}

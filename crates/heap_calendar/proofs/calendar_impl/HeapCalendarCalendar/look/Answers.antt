@@ -1,5 +1,5 @@
 -- The root, the earlier of its children, or a search.
-use Rattle.std.proofs.Common.{◌≡◌, ◌<◌, true, length, get_or, Some, None, heap_items, filter, sym, refl, ap, ◌∙◌, subst, arith}
+use Rattle.std.proofs.Common.{◌≡◌, true, get_or, heap_items, filter, sym, ap, ◌∙◌, subst, arith}
 use Rattle.std.specs.Option.{option_map}
 use Rattle.std.proofs.lemmas.List.{nil_from_length}
 use Rattle.event.specs.declared.Key.{Key}

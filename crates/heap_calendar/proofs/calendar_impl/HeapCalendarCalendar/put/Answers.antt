@@ -1,5 +1,5 @@
 -- Accepted exactly if there is room and puts are left.
-use Rattle.std.proofs.Common.{◌≡◌, ◌+◌, ◌<◌, ◌≤◌, true, false, cond, length, Ok, Err, heap_items, heap_len, Result, sym, refl, ap, ◌∙◌, arith}
+use Rattle.std.proofs.Common.{◌≡◌, ◌+◌, true, false, cond, length, Ok, Err, heap_items, sym, refl, ap, ◌∙◌, arith}
 use Rattle.event.specs.Lists.{insert}
 use Rattle.calendar.specs.Calls.{key_of_held, accepts}
 use Rattle.calendar.specs.declared.fault.CalendarFault.TheVariants.{Full}

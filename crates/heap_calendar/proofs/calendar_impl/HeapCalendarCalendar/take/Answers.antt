@@ -1,8 +1,5 @@
 -- The root is the first.
-use Rattle.std.proofs.Common.{◌≡◌, ℕ, ◌+◌, ◌<◌, ◌≤◌, [], ◌∷◌, Some, None, heap_items, heap_len, Option, sym, refl, ap, ◌∙◌, arith, MatchOption}
-use Rattle.std.specs.Option.{option_map}
-use Rattle.event.specs.Lists.{rest, first as head}
-use Rattle.slot.specs.Slots.{in_order, bare}
+use Rattle.std.proofs.Common.{◌≡◌, ℕ, ◌+◌, ◌≤◌, Some, None, heap_items, heap_len, Option, refl, ◌∙◌, arith, MatchOption}
 use Rattle.heap_calendar.proofs.Steps.{sound_pop, pop_says, pop_parts, pop_lengths}
 use Rattle.heap_calendar.proofs.calendar_impl.HeapCalendarCalendar.take.Goals as goal
 

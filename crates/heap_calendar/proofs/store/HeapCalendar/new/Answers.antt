@@ -1,5 +1,5 @@
 -- An empty heap is sound.
-use Rattle.std.proofs.Common.{◌+◌, ◌≤◌, arith}
+use Rattle.std.proofs.Common.{arith}
 use Rattle.heap_calendar.proofs.Steps.{sound_none}
 use Rattle.heap_calendar.proofs.store.HeapCalendar.new.Goals as goal
 
