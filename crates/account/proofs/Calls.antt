@@ -1,6 +1,6 @@
 -- Load, branch, decide, waive and retire keep the account sound.
 use Rattle.std.proofs.Common.{◌≡◌, ℕ, ◌<◌, true, false, not, ◌&&◌, ◌||◌, eqb, ◌⊎◌, List, sym, refl, ap, ◌∙◌, subst, inl, inr, ⊎_elim, arith}
-use Rattle.std.specs.List.{AllByRecursion as All}
+use Rattle.std.specs.List.{AllByRecursion}
 use Rattle.std.proofs.lemmas.Bool.{cases_Bool, both_ways, cond_both, cond-true, cond-false, cases_eq, eq-eqb, ne_eqb, eqb-true, or_cases, or_parts, or_from, or_left, or_right, and_parts, and_from, not_from_false}
 use Rattle.std.proofs.lemmas.Bool.Decides.{nat_tests}
 use Rattle.event.specs.declared.Start.{Start}
@@ -29,7 +29,7 @@ empty_sound M = record {
   tidy = λ v h. absurd (both_ways false refl h);
 }
 
-pub load_sound : (M : Meaning) → Law M → (A : Account) (l : List Start) (end : ℕ) → All (λ s. s.receiver < M.places) l → Sound M (fed_load M A l end)
+pub load_sound : (M : Meaning) → Law M → (A : Account) (l : List Start) (end : ℕ) → AllByRecursion (λ s. s.receiver < M.places) l → Sound M (fed_load M A l end)
 load_sound M law A l end h = record {
   given = λ v e. grind (arith, nat_tests);
   few = omega arith;

@@ -1,6 +1,6 @@
 -- A chain reaches what is reached: a step keeps it so.
 use Rattle.std.proofs.Common.{◌≡◌, ℕ, suc, ◌<◌, ◌≤◌, Bool, true, false, cond, not, ◌&&◌, ◌||◌, eqb, ◌⊎◌, map, length, Some, None, Option, sym, refl, ap, ◌∙◌, subst, inl, inr, ⊎_elim, add-one, arith}
-use Rattle.std.specs.List.{AllByRecursion as All}
+use Rattle.std.specs.List.{AllByRecursion}
 use Rattle.std.proofs.lemmas.List.{length_push}
 use Rattle.std.proofs.lemmas.Bool.{cases_Bool, both_ways, cond_both, cond-true, cond-false, cases_eq, eq-eqb, ne_eqb, eqb-true, or_cases, or_parts, or_from, or_left, or_right, and_parts, and_from, and_right}
 use Rattle.event.specs.declared.Message.{Message}
@@ -71,7 +71,7 @@ module _ (M : Meaning) (law : Law M) (A : Account) (s : Sound M A) (f : Faithful
       subst (λ j. before (key_of m) j ≡ true) r.key
       (all_first (λ q. before (key_of m) (key_of q) ≡ true) (A.day w).waiting y
       (ran_in M A.end A.load (map plain (A.orders v)) (λ j. Ahead (key_of j) (A.day w).waiting) i (length (A.day v).journal) m h.early h.head
-      (subst (λ d. All (λ j. Ahead (key_of j) (A.day w).waiting) d.journal) ((f v lv).day) (clock v w lv lw))) r.head)
+      (subst (λ d. AllByRecursion (λ j. Ahead (key_of j) (A.day w).waiting) d.journal) ((f v lv).day) (clock v w lv lw))) r.head)
 
   -- what is sent now comes after k
   sent_now : (v : ℕ) (m₀ m : Message) → A.live v ≡ true → Ran A k v m₀ → Sends M A.end A.load (run_of A v) (length (A.day v).journal) m → find (key_of m) (posted_by M A.end ((A.day v).place m₀.receiver) m₀) ≡ Some m

@@ -1,6 +1,6 @@
 -- A chain reaches what is reached: the claim, and load, branch, decide, waive and retire keep it so.
 use Rattle.std.proofs.Common.{◌≡◌, ℕ, suc, ◌<◌, Bool, true, false, not, ◌&&◌, ◌||◌, eqb, ◌⊎◌, List, [], ◌∷◌, ◌++◌, map, length, Some, sym, refl, ap, ◌∙◌, subst, inl, inr, ⊎_elim, arith}
-use Rattle.std.specs.List.{AllByRecursion as All}
+use Rattle.std.specs.List.{AllByRecursion}
 use Rattle.std.proofs.ByRecursion.{All-weaker, All-push}
 use Rattle.std.proofs.lemmas.Bool.{cases_Bool, both_ways, cond_both, cond-true, cond-false, cases_eq, eq-eqb, ne_eqb, eqb-true, eqb-false, or_cases, or_parts, or_from, or_left, or_right, and_parts, and_from, not-true}
 use Rattle.event.specs.declared.Message.{Message}
@@ -26,7 +26,7 @@ abbrev pub Live : Account → (Bool → ℕ) → Type 0
 Live A u = (x : Bool) → A.live (u x) ≡ true
 
 pub record Chained (M : Meaning) (A : Account) : Type 0 where
-  pub named : (w : ℕ) → A.live w ≡ true → All (λ o. (A.undecided o.by ≡ false) × (o.by < A.made)) (A.orders w)
+  pub named : (w : ℕ) → A.live w ≡ true → AllByRecursion (λ o. (A.undecided o.by ≡ false) × (o.by < A.made)) (A.orders w)
   pub reached_to : (u : Bool → ℕ) (p : ℕ) → Live A u → A.reached (u true) (u false) p ≡ true → (t : Moment) × Touched M A.end A.load (duo A u) t p
   pub reached_from : (u : Bool → ℕ) (p : ℕ) (t : Moment) → Live A u → Touched M A.end A.load (duo A u) t p → A.reached (u true) (u false) p ≡ true
   pub marked_to : (u : Bool → ℕ) (x : Bool) (k : Key) (m : Message) → Live A u → A.marked (u true) (u false) k ≡ true → find k (A.day (u x)).waiting ≡ Some m → Carried M A.end A.load (duo A u) x m
@@ -144,11 +144,11 @@ in_last q [] = inl refl
 in_last q (x ∷ os) = inr (in_last q os)
 
 -- what holds of each order as a day takes it holds of each as it was given
-pub all_plain : (P : Order → Type 0) (os : List Given) → All P (map plain os) → All (λ o. P (plain o)) os
+pub all_plain : (P : Order → Type 0) (os : List Given) → AllByRecursion P (map plain os) → AllByRecursion (λ o. P (plain o)) os
 all_plain P [] h = tt
 all_plain P (o ∷ os) h = (h.0, all_plain P os h.1)
 
-pub all_in : (P : Given → Type 0) (os : List Given) (o : Given) → All P os → In o os → P o
+pub all_in : (P : Given → Type 0) (os : List Given) (o : Given) → AllByRecursion P os → In o os → P o
 all_in P [] o h i = absurd i
 all_in P (x ∷ os) o h (inl e) = subst P (sym e) h.0
 all_in P (x ∷ os) o h (inr i) = all_in P os o h.1 i
@@ -274,7 +274,7 @@ module _ (M : Meaning) (A : Account) (v place value : ℕ) (free : A.undecided v
 
   pub decide_chained : A.made ≡ A.made → v < A.made → Chained M (fed_decide A v place value)
   decide_chained _ given = record {
-    named = λ w h. cond_both (eqb w v) (A.orders v ++ new ∷ []) (A.orders w) (All (λ o. ((A.undecided o.by && not (eqb o.by v)) ≡ false) × (o.by < A.made)))
+    named = λ w h. cond_both (eqb w v) (A.orders v ++ new ∷ []) (A.orders w) (AllByRecursion (λ o. ((A.undecided o.by && not (eqb o.by v)) ≡ false) × (o.by < A.made)))
         (λ e. All-push (λ o. ((A.undecided o.by && not (eqb o.by v)) ≡ false) × (o.by < A.made)) (A.orders v) new (old v lv) (Rattle.std.proofs.lemmas.Bool.and_right (A.undecided v) (not (eqb v v)) (Rattle.std.proofs.lemmas.Bool.not_from_true (eqb v v) (eq-eqb v v refl)), given))
         (λ _. old w h);
     reached_to = λ u p l. to u l p;
@@ -286,5 +286,5 @@ module _ (M : Meaning) (A : Account) (v place value : ℕ) (free : A.undecided v
     joint_from = λ u i j m l a b n. c.joint_from u i j m l (runs_back (u true) i m a) (runs_back (u false) j m b) (λ C. n (carried_grows M A.end A.load (duo A u) (duo A' u) (grows u l) true m C));
   }
     where
-      old : (w : ℕ) → A.live w ≡ true → All (λ o. ((A.undecided o.by && not (eqb o.by v)) ≡ false) × (o.by < A.made)) (A.orders w)
+      old : (w : ℕ) → A.live w ≡ true → AllByRecursion (λ o. ((A.undecided o.by && not (eqb o.by v)) ≡ false) × (o.by < A.made)) (A.orders w)
       old w h = All-weaker (λ o. (A.undecided o.by ≡ false) × (o.by < A.made)) (λ o. ((A.undecided o.by && not (eqb o.by v)) ≡ false) × (o.by < A.made)) (λ o n. (Rattle.std.proofs.lemmas.Bool.and_left _ _ n.0, n.1)) (A.orders w) (c.named w h)

@@ -1,6 +1,6 @@
 -- What has run in any live variant comes before what waits in any live variant.
 use Rattle.std.proofs.Common.{◌≡◌, ℕ, ◌<◌, true, false, not, eqb, leb, ◌⊎◌, List, [], ◌∷◌, Some, None, Option, sym, refl, ap, ◌∙◌, subst, inl, inr, arith}
-use Rattle.std.specs.List.{AllByRecursion as All}
+use Rattle.std.specs.List.{AllByRecursion}
 use Rattle.std.proofs.ByRecursion.{All-weaker, all_kept_by, All-push}
 use Rattle.std.proofs.lemmas.Bool.{cases_Bool, cond_both, cond-true, eqb-true, and_parts}
 use Rattle.event.specs.declared.Message.{Message}
@@ -22,10 +22,10 @@ use Rattle.account.proofs.Calls.{live_origin}
 use Rattle.account.proofs.Step.{Ran, who, day_ran, day_idle, least_first}
 
 abbrev pub Ahead : Key → List Message → Type 0
-Ahead k xs = All (λ m. before k (key_of m) ≡ true) xs
+Ahead k xs = AllByRecursion (λ m. before k (key_of m) ≡ true) xs
 
 abbrev pub Between : List Message → List Message → Type 0
-Between js xs = All (λ j. Ahead (key_of j) xs) js
+Between js xs = AllByRecursion (λ j. Ahead (key_of j) xs) js
 
 abbrev pub Clock : Account → Type 0
 Clock A = (v w : ℕ) → A.live v ≡ true → A.live w ≡ true → Between (A.day v).journal (A.day w).waiting

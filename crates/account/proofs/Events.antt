@@ -1,6 +1,6 @@
 -- What waits after an event.
 use Rattle.std.proofs.Common.{◌≡◌, ℕ, suc, ◌+◌, ◌<◌, ◌≤◌, true, false, cond, leb, ◌⊎◌, List, [], ◌∷◌, length, Some, None, sym, refl, ap, ◌∙◌, subst, inl, inr, arith}
-use Rattle.std.specs.List.{AllByRecursion as All}
+use Rattle.std.specs.List.{AllByRecursion}
 use Rattle.std.proofs.ByRecursion.{All-weaker, all_kept_by}
 use Rattle.std.proofs.lemmas.Bool.{cases_Bool}
 use Rattle.event.specs.declared.Key.{Key}
@@ -19,18 +19,18 @@ use Rattle.account.specs.Finds.{find, either}
 use Rattle.day.proofs.Places.{none_some}
 use Rattle.account.proofs.Finding.{find_none, find_insert, find_rest}
 
-pub all_first : (P : Message → Type 0) (xs : List Message) (m : Message) → All P xs → first xs ≡ Some m → P m
+pub all_first : (P : Message → Type 0) (xs : List Message) (m : Message) → AllByRecursion P xs → first xs ≡ Some m → P m
 all_first P [] m h e = absurd (none_some m e)
 all_first P (x ∷ xs) m h e = let g : x ≡ m = cc in subst P g h.0
 
 -- what s sends is numbered from n on
-pub stamped_from : (t s n : ℕ) (l : List Sent) → All (Between s n (n + length l)) (stamped t s n l)
+pub stamped_from : (t s n : ℕ) (l : List Sent) → AllByRecursion (Between s n (n + length l)) (stamped t s n l)
 stamped_from t s n l =
-    subst (λ (k : ℕ). All (Between s n (n + k)) (stamped t s n l)) (length_stamped t s n l) (sequence_between s n (stamped t s n l) (stamped_sequence t s n l))
+    subst (λ (k : ℕ). AllByRecursion (Between s n (n + k)) (stamped t s n l)) (length_stamped t s n l) (sequence_between s n (stamped t s n l) (stamped_sequence t s n l))
 
 -- all of s in xs are numbered below n
 abbrev Under : ℕ → ℕ → List Message → Type 0
-Under s n xs = All (λ m. m.sender ≡ s → m.number < n) xs
+Under s n xs = AllByRecursion (λ m. m.sender ≡ s → m.number < n) xs
 
 under_more : (s n : ℕ) (xs : List Message) → Under s n xs → Under s (suc n) xs
 under_more s n xs h = All-weaker (λ m. m.sender ≡ s → m.number < n) (λ m. m.sender ≡ s → m.number < suc n) (λ m u f. let a = u f in omega arith) xs h

@@ -1,6 +1,6 @@
 -- A message found by its key.
 use Rattle.std.proofs.Common.{◌≡◌, true, false, cond, ◌⊎◌, List, [], ◌∷◌, Some, None, Option, sym, refl, ap, ◌∙◌, subst, inl, inr}
-use Rattle.std.specs.List.{AllByRecursion as All}
+use Rattle.std.specs.List.{AllByRecursion}
 use Rattle.std.proofs.ByRecursion.{All-weaker}
 use Rattle.std.proofs.lemmas.Bool.{cases_Bool, both_ways, cond-true, cond-false}
 use Rattle.event.specs.declared.Message.{Message}
@@ -19,7 +19,7 @@ find_key k (x ∷ xs) m e = go (cases_Bool (same k (key_of x))) (find_key k xs m
     go (inl t) ih = let f : ◌≡◌ {A = Option Message} (Some x) (Some m) = sym (cond-true (same k (key_of x)) (Some x) (find k xs) t) ∙ e in let g : x ≡ m = cc in ap key_of (sym g) ∙ sym (same_true k (key_of x) t)
     go (inr t) ih = ih (sym (cond-false (same k (key_of x)) (Some x) (find k xs) t) ∙ e)
 
-pub all_find : (P : Message → Type 0) (k : Key) (xs : List Message) (m : Message) → All P xs → find k xs ≡ Some m → P m
+pub all_find : (P : Message → Type 0) (k : Key) (xs : List Message) (m : Message) → AllByRecursion P xs → find k xs ≡ Some m → P m
 all_find P k [] m h e = absurd (none_some m e)
 all_find P k (x ∷ xs) m h e = go (cases_Bool (same k (key_of x))) (all_find P k xs m h.1)
   where
@@ -28,7 +28,7 @@ all_find P k (x ∷ xs) m h e = go (cases_Bool (same k (key_of x))) (all_find P 
     go (inr t) ih = ih (sym (cond-false (same k (key_of x)) (Some x) (find k xs) t) ∙ e)
 
 -- no element has the key
-pub find_none : (k : Key) (xs : List Message) → All (λ m. key_of m ≡ k → ⊥) xs → find k xs ≡ None
+pub find_none : (k : Key) (xs : List Message) → AllByRecursion (λ m. key_of m ≡ k → ⊥) xs → find k xs ≡ None
 find_none k [] h = refl
 find_none k (x ∷ xs) h = cond-false (same k (key_of x)) (Some x) (find k xs) (same_not k (key_of x) (λ e. h.0 (sym e))) ∙ find_none k xs h.1
 

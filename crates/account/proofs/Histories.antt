@@ -1,6 +1,6 @@
 -- Any list of calls, denied ones counted in, is a list of accepted ones.
 use Rattle.std.proofs.Common.{◌≡◌, ℕ, suc, ◌<◌, Bool, true, false, cond, not, ltb, leb, List, [], ◌∷◌, Some, None, Option, sym, refl}
-use Rattle.std.specs.List.{AllByRecursion as All}
+use Rattle.std.specs.List.{AllByRecursion}
 use Rattle.std.proofs.lemmas.Bool.{leb-false, not-false}
 use Rattle.event.specs.declared.Start.{Start}
 use Rattle.model.specs.Meaning.{Meaning}
@@ -16,7 +16,7 @@ passed : (b : Bool) (r : Refusal) (o : Option Refusal) → cond b (Some r) o ≡
 passed true r o e = absurd (none_some r (sym e))
 passed false r o e = (refl, e)
 
-good_start : (M : Meaning) (capacity end i : ℕ) (l : List Start) → bad_start M capacity end i l ≡ None → All (λ s. s.receiver < M.places) l
+good_start : (M : Meaning) (capacity end i : ℕ) (l : List Start) → bad_start M capacity end i l ≡ None → AllByRecursion (λ s. s.receiver < M.places) l
 good_start M capacity end i [] e = tt
 good_start M capacity end i (s ∷ l) e =
     let a = passed (leb M.places s.receiver) _ _ e in let b = passed (ltb end s.time) _ _ a.1 in let c = passed (leb capacity i) _ _ b.1 in

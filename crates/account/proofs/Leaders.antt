@@ -1,6 +1,6 @@
 -- There are as many leaders as groups.
 use Rattle.std.proofs.Common.{◌≡◌, ℕ, zero, suc, ◌+◌, Bool, true, false, cond, not, ◌&&◌, ◌||◌, ◌⊎◌, List, [], ◌∷◌, length, sym, refl, ap, ◌∙◌, inl, inr, ⊎_elim, arith}
-use Rattle.std.specs.List.{AllByRecursion as All}
+use Rattle.std.specs.List.{AllByRecursion}
 use Rattle.std.proofs.lemmas.Bool.{cases_Bool, cond_both}
 use Rattle.std.proofs.lemmas.Bool.Decides.{nat_tests}
 use Rattle.account.specs.Account.{ind, any_below, sum_below}
@@ -32,7 +32,7 @@ sum_first q zero = refl
 sum_first q (suc n) = let a = sum_first q n in ⊎_elim (λ (e : q n ≡ true). ⊎_elim (λ (d : any_below q n ≡ true). grind (arith, nat_tests)) (λ (d : any_below q n ≡ false). grind (arith, nat_tests)) (cases_Bool (any_below q n))) (λ (e : q n ≡ false). grind (arith, nat_tests)) (cases_Bool (q n))
 
 -- sets that are not empty are as many as their least ones
-sets_least : (n : ℕ) (gs : List (ℕ → Bool)) → All (λ g. any_below g n ≡ true) gs → length gs ≡ sum_below (λ v. count (least_in v) gs) n
+sets_least : (n : ℕ) (gs : List (ℕ → Bool)) → AllByRecursion (λ g. any_below g n ≡ true) gs → length gs ≡ sum_below (λ v. count (least_in v) gs) n
 sets_least n [] h = sym (sum_none n)
 sets_least n (g ∷ gs) h =
     let a = sum_first g n ∙ ap ind h.0 in let b = sets_least n gs h.1 in
@@ -40,7 +40,7 @@ sets_least n (g ∷ gs) h =
     omega (arith, a, b, d)
 
 -- which of its groups v is least in
-count_of_least : (among : ℕ → Bool) (alike : ℕ → ℕ → Bool) (v : ℕ) (gs : List (ℕ → Bool)) → All (λ g. (v w : ℕ) → g v ≡ true → g w ≡ (among w && alike v w)) gs
+count_of_least : (among : ℕ → Bool) (alike : ℕ → ℕ → Bool) (v : ℕ) (gs : List (ℕ → Bool)) → AllByRecursion (λ g. (v w : ℕ) → g v ≡ true → g w ≡ (among w && alike v w)) gs
     → count (least_in v) gs ≡ cond (any_below (λ w. among w && alike v w) v) 0 (count (λ g. g v) gs)
 count_of_least among alike v [] h = cond_both (any_below (λ w. among w && alike v w) v) 0 0 (λ z. 0 ≡ z) (λ _. refl) (λ _. refl)
 count_of_least among alike v (g ∷ gs) h = go (cases_Bool (g v)) (cases_Bool (any_below (λ w. among w && alike v w) v)) (count_of_least among alike v gs h.1)

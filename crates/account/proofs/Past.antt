@@ -1,6 +1,6 @@
 -- What a day run alone keeps of its earlier events.
 use Rattle.std.proofs.Common.{◌≡◌, ℕ, zero, suc, ◌+◌, ◌<◌, ◌≤◌, cond, eqb, leb, ◌⊎◌, List, [], ◌∷◌, ◌++◌, length, Some, None, Option, sym, refl, ap, ◌∙◌, subst, inl, inr, ⊎_elim, arith}
-use Rattle.std.specs.List.{AllByRecursion as All}
+use Rattle.std.specs.List.{AllByRecursion}
 use Rattle.std.proofs.ByRecursion.{all_kept_by}
 use Rattle.std.proofs.lemmas.Bool.{cond_both, cond-true, cases_eq, eq-eqb, eqb-true}
 use Rattle.event.specs.declared.Message.{Message}
@@ -60,18 +60,18 @@ module _ (M : Meaning) (end : ℕ) (load : List Start) (os : List Order) where
       (λ ne. let a = number_below i n x (let z : i < n = omega (arith, ne) in z) h in let b = event_sent M end (alone M end load os n) x.sender in let z : x.number < ((event M end (alone M end load os n)).place x.sender).sent = omega (arith, a, b) in z) (cases_eq i n))
 
   -- what event i ran stands in the journal
-  pub ran_in : (P : Message → Type 0) (i n : ℕ) (m : Message) → i < n → first (alone M end load os i).waiting ≡ Some m → All P (alone M end load os n).journal → P m
+  pub ran_in : (P : Message → Type 0) (i n : ℕ) (m : Message) → i < n → first (alone M end load os i).waiting ≡ Some m → AllByRecursion P (alone M end load os n).journal → P m
   unfolding alone
   ran_in P i zero m l h a = absurd (let z : ⊥ = omega arith in z)
-  ran_in P i (suc n) m l h a = go (cases_eq i n) (first (alone M end load os n).waiting) refl (subst (All P) (at_journal (suc n) os (event M end (alone M end load os n))) a) (ran_in P i n m)
+  ran_in P i (suc n) m l h a = go (cases_eq i n) (first (alone M end load os n).waiting) refl (subst (AllByRecursion P) (at_journal (suc n) os (event M end (alone M end load os n))) a) (ran_in P i n m)
     where
-      parts : (xs : List Message) (y : Message) → All P (xs ++ y ∷ []) → All P xs × P y
+      parts : (xs : List Message) (y : Message) → AllByRecursion P (xs ++ y ∷ []) → AllByRecursion P xs × P y
       parts [] y b = (tt, b.0)
       parts (x ∷ xs) y b = let r = parts xs y b.1 in ((b.0, r.0), r.1)
 
-      go : (i ≡ n) ⊎ (i ≡ n → ⊥) → (o : Option Message) → first (alone M end load os n).waiting ≡ o → All P (event M end (alone M end load os n)).journal → (i < n → first (alone M end load os i).waiting ≡ Some m → All P (alone M end load os n).journal → P m) → P m
+      go : (i ≡ n) ⊎ (i ≡ n → ⊥) → (o : Option Message) → first (alone M end load os n).waiting ≡ o → AllByRecursion P (event M end (alone M end load os n)).journal → (i < n → first (alone M end load os i).waiting ≡ Some m → AllByRecursion P (alone M end load os n).journal → P m) → P m
       go (inl e) o f b ih =
           let g : first (alone M end load os n).waiting ≡ Some m = ap (λ j. first (alone M end load os j).waiting) (sym e) ∙ h in
-          (parts (alone M end load os n).journal m (subst (λ q. All P (event_at M end (alone M end load os n) q).journal) g b)).1
-      go (inr ne) None f b ih = ih (omega (arith, ne)) h (subst (λ q. All P (event_at M end (alone M end load os n) q).journal) f b)
-      go (inr ne) (Some y) f b ih = ih (omega (arith, ne)) h (parts (alone M end load os n).journal y (subst (λ q. All P (event_at M end (alone M end load os n) q).journal) f b)).0
+          (parts (alone M end load os n).journal m (subst (λ q. AllByRecursion P (event_at M end (alone M end load os n) q).journal) g b)).1
+      go (inr ne) None f b ih = ih (omega (arith, ne)) h (subst (λ q. AllByRecursion P (event_at M end (alone M end load os n) q).journal) f b)
+      go (inr ne) (Some y) f b ih = ih (omega (arith, ne)) h (parts (alone M end load os n).journal y (subst (λ q. AllByRecursion P (event_at M end (alone M end load os n) q).journal) f b)).0

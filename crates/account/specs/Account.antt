@@ -1,6 +1,6 @@
 -- The pair account: a day run alone for each variant, and what tells any two of them apart.
 use Rattle.std.specs.Prelude.{◌≡◌, ℕ, zero, suc, ◌+◌, ◌<◌, Bool, true, false, cond, not, ◌&&◌, ◌||◌, List, [], ◌∷◌, ◌++◌, length, Some, None, Option, ◌==◌}
-use Rattle.std.specs.List.{AllByRecursion as All}
+use Rattle.std.specs.List.{AllByRecursion}
 use Rattle.event.specs.declared.Message.{Message}
 use Rattle.event.specs.declared.Start.{Start}
 use Rattle.event.specs.declared.Key.{Key}
@@ -232,7 +232,7 @@ fed M A (retire v) = fed_retire A v
 
 -- what an accepted call has been seen to meet (the rest of the refusals are of no concern here)
 abbrev pub Accepted : Meaning → Account → Call → Type 0
-Accepted M A (load l end) = (A.loaded ≡ false) × All (λ s. s.receiver < M.places) l
+Accepted M A (load l end) = (A.loaded ≡ false) × AllByRecursion (λ s. s.receiver < M.places) l
 Accepted M A (branch v) = (A.live v ≡ true) × (A.made < 16)
 Accepted M A (decide v place value) = (A.live v ≡ true) × (A.undecided v ≡ true)
 Accepted M A (waive v) = A.undecided v ≡ true

@@ -1,6 +1,6 @@
 -- Counting by leaders.
 use Rattle.std.specs.Prelude.{◌≡◌, ℕ, ◌+◌, Bool, true, cond, not, ◌&&◌, List, [], ◌∷◌, length}
-use Rattle.std.specs.List.{AllByRecursion as All}
+use Rattle.std.specs.List.{AllByRecursion}
 use Rattle.event.specs.declared.Key.{Key}
 use Rattle.event.specs.Keys.{key_of}
 use Rattle.account.specs.Finds.{find, some}
@@ -17,9 +17,9 @@ leads among alike v = among v && not (any_below (λ w. among w && alike v w) v)
 
 -- the groups of those below n, by likeness: none empty, each one in just one, and with all that are like it
 pub record Groups (n : ℕ) (among : ℕ → Bool) (alike : ℕ → ℕ → Bool) (gs : List (ℕ → Bool)) : Type 0 where
-  pub filled : All (λ g. any_below g n ≡ true) gs
+  pub filled : AllByRecursion (λ g. any_below g n ≡ true) gs
   pub once : (v : ℕ) → count (λ g. g v) gs ≡ ind (among v)
-  pub whole : All (λ g. (v w : ℕ) → g v ≡ true → g w ≡ (among w && alike v w)) gs
+  pub whole : AllByRecursion (λ g. (v w : ℕ) → g v ≡ true → g w ≡ (among w && alike v w)) gs
 
 -- there are as many groups as leaders
 abbrev pub LeadersCount : Type 0

@@ -1,6 +1,6 @@
 -- What the calls do to the messages of one variant, and to the groups.
 use Rattle.std.proofs.Common.{◌≡◌, ℕ, Bool, true, false, cond, not, ◌&&◌, ◌||◌, eqb, ltb, ◌⊎◌, List, [], ◌∷◌, map, length, filter, sym, refl, ap, ◌∙◌, subst, inl, inr, ⊎_elim, arith}
-use Rattle.std.specs.List.{AllByRecursion as All}
+use Rattle.std.specs.List.{AllByRecursion}
 use Rattle.std.proofs.ByRecursion.{all_kept_by}
 use Rattle.std.proofs.lemmas.Bool.{cases_Bool, both_ways, cond_both, cond-true, cond-false, eq-eqb}
 use Rattle.event.specs.Keys.{key_of, before}
@@ -17,7 +17,7 @@ map_sorted : (f : Held → Held) → ((x : Held) → key_of_held (f x) ≡ key_o
 map_sorted f e [] s = tt
 map_sorted f e (x ∷ xs) s = (go xs s.0, map_sorted f e xs s.1)
   where
-    go : (ys : List Held) → All (λ y. before (key_of_held y) (key_of_held x) ≡ false) ys → All (λ y. before (key_of_held y) (key_of_held (f x)) ≡ false) (map f ys)
+    go : (ys : List Held) → AllByRecursion (λ y. before (key_of_held y) (key_of_held x) ≡ false) ys → AllByRecursion (λ y. before (key_of_held y) (key_of_held (f x)) ≡ false) (map f ys)
     go [] a = tt
     go (y ∷ ys) a = (ap (λ k. before (key_of_held (f y)) k) (e x) ∙ ap (λ k. before k (key_of_held x)) (e y) ∙ a.0, go ys a.1)
 
@@ -28,9 +28,9 @@ kept_sorted p (x ∷ xs) s =
     cond_both (p x) (x ∷ filter p xs) (filter p xs) (Sorted key_of_held)
     (λ _. (all_kept_by p (λ y. before (key_of_held y) (key_of_held x) ≡ false) xs s.0, kept_sorted p xs s.1)) (λ _. kept_sorted p xs s.1)
 
-all_kept : (p : Held → Bool) (xs : List Held) → All (λ x. p x ≡ true) (filter p xs)
+all_kept : (p : Held → Bool) (xs : List Held) → AllByRecursion (λ x. p x ≡ true) (filter p xs)
 all_kept p [] = tt
-all_kept p (x ∷ xs) = cond_both (p x) (x ∷ filter p xs) (filter p xs) (All (λ y. p y ≡ true)) (λ e. (e, all_kept p xs)) (λ _. all_kept p xs)
+all_kept p (x ∷ xs) = cond_both (p x) (x ∷ filter p xs) (filter p xs) (AllByRecursion (λ y. p y ≡ true)) (λ e. (e, all_kept p xs)) (λ _. all_kept p xs)
 
 pub put_laws : (h : Held) (xs : List Held) → PutLaws h xs
 put_laws h xs = record {
@@ -52,7 +52,7 @@ take_laws x xs = record { sorted = λ s. s.1; messages = λ v. out v (has x.grou
     out v false = refl
 
 -- a map that keeps messages, and decides by its own test who waits for them
-messages_by : (f : Held → Held) (p q : Held → Bool) → ((x : Held) → (f x).message ≡ x.message) → (xs : List Held) → All (λ x. p (f x) ≡ q x) xs
+messages_by : (f : Held → Held) (p q : Held → Bool) → ((x : Held) → (f x).message ≡ x.message) → (xs : List Held) → AllByRecursion (λ x. p (f x) ≡ q x) xs
     → map message_of (filter p (map f xs)) ≡ map message_of (filter q xs)
 messages_by f p q e [] a = refl
 messages_by f p q e (x ∷ xs) a = go (cases_Bool (q x)) (messages_by f p q e xs a.1)
@@ -61,7 +61,7 @@ messages_by f p q e (x ∷ xs) a = go (cases_Bool (q x)) (messages_by f p q e xs
     go (inl t) ih = let u : p (f x) ≡ true = a.0 ∙ t in simp (t, u) (ap (λ m. m ∷ map message_of (filter p (map f xs))) (e x) ∙ ap (λ l. x.message ∷ l) ih)
     go (inr t) ih = let u : p (f x) ≡ false = a.0 ∙ t in simp (t, u) ih
 
-every : (P : Held → Type 0) → ((x : Held) → P x) → (xs : List Held) → All P xs
+every : (P : Held → Type 0) → ((x : Held) → P x) → (xs : List Held) → AllByRecursion P xs
 every P f [] = tt
 every P f (x ∷ xs) = (f x, every P f xs)
 
@@ -109,11 +109,11 @@ spread_laws v c xs = record {
     ways true true false b e f g = absurd (both_ways false refl f)
     ways false t q b e f g = g
 
-    gains : ltb c 16 ≡ true → (ys : List Held) → messages_of c ys ≡ [] → All (λ x. has (joins v c x).group c ≡ has x.group v) ys
+    gains : ltb c 16 ≡ true → (ys : List Held) → messages_of c ys ≡ [] → AllByRecursion (λ x. has (joins v c x).group c ≡ has x.group v) ys
     gains h [] n = tt
     gains h (y ∷ ys) n = go (cases_Bool (has y.group c)) (λ k. gains h ys k)
       where
-        go : (has y.group c ≡ true) ⊎ (has y.group c ≡ false) → (messages_of c ys ≡ [] → All (λ x. has (joins v c x).group c ≡ has x.group v) ys) → All (λ x. has (joins v c x).group c ≡ has x.group v) (y ∷ ys)
+        go : (has y.group c ≡ true) ⊎ (has y.group c ≡ false) → (messages_of c ys ≡ [] → AllByRecursion (λ x. has (joins v c x).group c ≡ has x.group v) ys) → AllByRecursion (λ x. has (joins v c x).group c ≡ has x.group v) (y ∷ ys)
         go (inl b) ih = absurd (not_none y.message (messages_of c ys) (sym (ap (map message_of) (cond-true _ _ _ b)) ∙ n))
         go (inr b) ih = (has_joins v c c y ∙ ways (has y.group v) (ltb c 16) (eqb c c) (has y.group c) h (eq-eqb c c refl) b, ih (sym (ap (map message_of) (cond-false _ _ _ b)) ∙ n))
 
@@ -122,7 +122,7 @@ erase_laws v xs = record {
   sorted = λ s. cond_both (ltb v 16) (filter wanted (map (leaves v) xs)) xs (Sorted key_of_held) (λ _. kept_sorted wanted (map (leaves v) xs) (map_sorted (leaves v) (λ x. refl) xs s)) (λ _. s);
   none = cond_both (ltb v 16) (filter wanted (map (leaves v) xs)) xs (λ l. messages_of v l ≡ []) (λ h. gone xs) (λ h. never h xs);
   others = λ u e. cond_both (ltb v 16) (filter wanted (map (leaves v) xs)) xs (λ l. messages_of u l ≡ messages_of u xs) (λ _. kept u e xs) (λ _. refl);
-  wanted = λ h. subst (λ l. All (λ x. wanted x ≡ true) l) (sym (cond-true _ _ _ h)) (all_kept wanted (map (leaves v) xs));
+  wanted = λ h. subst (λ l. AllByRecursion (λ x. wanted x ≡ true) l) (sym (cond-true _ _ _ h)) (all_kept wanted (map (leaves v) xs));
 }
   where
     left_out : (q b : Bool) → q ≡ true → (not q && b) ≡ false

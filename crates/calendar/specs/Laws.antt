@@ -1,6 +1,6 @@
 -- What the calls do to the messages of one variant, and to the groups.
 use Rattle.std.specs.Prelude.{◌≡◌, ℕ, true, false, cond, List, [], ◌∷◌, map, ◌==◌, nat_lt}
-use Rattle.std.specs.List.{AllByRecursion as All}
+use Rattle.std.specs.List.{AllByRecursion}
 use Rattle.event.specs.declared.Message.{Message}
 use Rattle.event.specs.Keys.{key_of}
 use Rattle.event.specs.Lists.{insert, Sorted}
@@ -38,4 +38,4 @@ pub record EraseLaws (v : ℕ) (xs : List Held) : Type 0 where
   pub sorted : Sorted key_of_held xs → Sorted key_of_held (erase v xs)
   pub none : messages_of v (erase v xs) ≡ []
   pub others : (u : ℕ) → (u == v) ≡ false → messages_of u (erase v xs) ≡ messages_of u xs
-  pub wanted : nat_lt v 16 ≡ true → All (λ x. wanted x ≡ true) (erase v xs)
+  pub wanted : nat_lt v 16 ≡ true → AllByRecursion (λ x. wanted x ≡ true) (erase v xs)

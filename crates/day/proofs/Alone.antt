@@ -1,6 +1,6 @@
 -- Any mixture of events and orders gives the day run alone under those orders.
 use Rattle.std.proofs.Common.{◌≡◌, ℕ, zero, suc, ◌<◌, ◌≤◌, cond, eqb, List, [], ◌∷◌, ◌++◌, length, Some, None, Option, sym, refl, ap, ◌∙◌, subst, append_assoc, add-one, arith}
-use Rattle.std.specs.List.{AllByRecursion as All}
+use Rattle.std.specs.List.{AllByRecursion}
 use Rattle.std.proofs.ByRecursion.{All-weaker, All-push}
 use Rattle.std.proofs.lemmas.List.{append-nil, length_push}
 use Rattle.std.proofs.lemmas.Bool.{cond-true, cond-false, eq-eqb, ne_eqb}
@@ -17,7 +17,7 @@ ordered_push n [] o d = refl
 ordered_push n (x ∷ os) o d = ordered_push n os o (cond (eqb x.position n) (ordered d x.place x.value) d)
 
 -- none is of the next position
-ordered_none : (n : ℕ) (os : List Order) (d : Day) → All (λ o. o.position ≤ n) os → ordered_at (suc n) os d ≡ d
+ordered_none : (n : ℕ) (os : List Order) (d : Day) → AllByRecursion (λ o. o.position ≤ n) os → ordered_at (suc n) os d ≡ d
 ordered_none n [] d h = refl
 ordered_none n (o ∷ os) d h =
     let a = h.0 in
@@ -44,7 +44,7 @@ module _ (M : Meaning) (end : ℕ) (starts : List Start) (os : List Order) (o : 
       ap (λ d. ordered_at (suc n) (os ++ o ∷ []) (event M end d)) (alone_before n (let z : n < o.position = omega arith in z))
       ∙ ordered_push (suc n) os o _ ∙ cond-true (eqb o.position (suc n)) _ _ (eq-eqb o.position (suc n) e)
 
-pub alone_next : (M : Meaning) (end : ℕ) (starts : List Start) (os : List Order) (n : ℕ) → All (λ o. o.position ≤ n) os → alone M end starts os (suc n) ≡ event M end (alone M end starts os n)
+pub alone_next : (M : Meaning) (end : ℕ) (starts : List Start) (os : List Order) (n : ℕ) → AllByRecursion (λ o. o.position ≤ n) os → alone M end starts os (suc n) ≡ event M end (alone M end starts os n)
 unfolding alone
 alone_next M end starts os n h = ordered_none n os (event M end (alone M end starts os n)) h
 

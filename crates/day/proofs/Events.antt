@@ -1,6 +1,6 @@
 -- One event, over the cells and lists of a lone day.
 use Rattle.std.proofs.Common.{◌≡◌, ℕ, suc, ◌+◌, ◌*◌, ◌<◌, ◌≤◌, true, cond, eqb, ltb, leb, List, [], ◌∷◌, ◌++◌, length, get_or, set, Some, sym, ap, ◌∙◌, subst, ⊎_elim, arith, get_or-set_other, get_or-set_same}
-use Rattle.std.specs.List.{AllByRecursion as All}
+use Rattle.std.specs.List.{AllByRecursion}
 use Rattle.std.proofs.ByRecursion.{All-weaker, all_kept_by, kept_by_passes}
 use Rattle.std.proofs.lemmas.Bool.{cases_eq, cond-true, cond-false, eq-eqb, ne_eqb, lt-ltb, leb-true}
 use Rattle.event.specs.declared.Message.{Message}
@@ -72,11 +72,11 @@ held_order M cells cells' waiting journal at value l long e = λ i. record { pla
         ∙ ap (λ (q : Place). cond (eqb p at) (ordered_place q value) ((held_day M cells waiting journal).place p)) (sym (held_place M cells waiting journal at l))
 
 -- what is stamped goes where it was sent
-pub stamped_receivers : (n now sender from : ℕ) (ss : List Sent) → All (Within n) ss → All (λ m. m.receiver < n) (stamped now sender from ss)
+pub stamped_receivers : (n now sender from : ℕ) (ss : List Sent) → AllByRecursion (Within n) ss → AllByRecursion (λ m. m.receiver < n) (stamped now sender from ss)
 stamped_receivers n now sender from [] h = tt
 stamped_receivers n now sender from (s ∷ ss) h = (h.0.receiver, stamped_receivers n now sender (suc from) ss h.1)
 
-pub all_rest : {X : Type 0} (P : X → Type 0) (xs : List X) → All P xs → All P (rest xs)
+pub all_rest : {X : Type 0} (P : X → Type 0) (xs : List X) → AllByRecursion P xs → AllByRecursion P (rest xs)
 all_rest P [] h = tt
 all_rest P (x ∷ xs) h = h.1
 
@@ -85,15 +85,15 @@ module _ (end : ℕ) (waiting waiting' ms : List Message) (w : waiting' ≡ inse
   pub still_timely : ((i : ℕ) → (get_or waiting i blank).time ≤ end) → (i : ℕ) → (get_or waiting' i blank).time ≤ end
   still_timely h =
       places_by_all (λ m. m.time ≤ end) blank waiting' (omega arith)
-      (subst (All (λ m. m.time ≤ end)) (sym w)
+      (subst (AllByRecursion (λ m. m.time ≤ end)) (sym w)
       (all_insert_all key_of (λ m. m.time ≤ end) (within end ms) (rest waiting)
       (All-weaker (λ m. leb m.time end ≡ true) (λ m. m.time ≤ end) (λ m t. leb-true m.time end t) (within end ms) (kept_by_passes (λ m. leb m.time end) ms))
       (all_rest (λ m. m.time ≤ end) waiting (all_by_places (λ m. m.time ≤ end) blank waiting h))))
 
-  pub still_placed : All (λ m. m.receiver < 32) ms → ((i : ℕ) → (get_or waiting i blank).receiver < 32) → (i : ℕ) → (get_or waiting' i blank).receiver < 32
+  pub still_placed : AllByRecursion (λ m. m.receiver < 32) ms → ((i : ℕ) → (get_or waiting i blank).receiver < 32) → (i : ℕ) → (get_or waiting' i blank).receiver < 32
   still_placed a h =
       places_by_all (λ m. m.receiver < 32) blank waiting' (omega arith)
-      (subst (All (λ m. m.receiver < 32)) (sym w)
+      (subst (AllByRecursion (λ m. m.receiver < 32)) (sym w)
       (all_insert_all key_of (λ m. m.receiver < 32) (within end ms) (rest waiting)
       (all_kept_by (λ m. leb m.time end) (λ m. m.receiver < 32) ms a)
       (all_rest (λ m. m.receiver < 32) waiting (all_by_places (λ m. m.receiver < 32) blank waiting h))))

@@ -1,6 +1,6 @@
 -- A starting list, one message after the other.
 use Rattle.std.proofs.Common.{◌≡◌, ℕ, suc, ◌+◌, ◌*◌, ◌<◌, ◌≤◌, true, false, ltb, leb, ◌⊎◌, List, [], ◌∷◌, ◌++◌, length, get_or, take, drop, Some, None, Option, sym, refl, ap, ◌∙◌, subst, inl, inr, ⊎_elim, add-one, arith, drop-cons}
-use Rattle.std.specs.List.{AllByRecursion as All}
+use Rattle.std.specs.List.{AllByRecursion}
 use Rattle.std.proofs.lemmas.List.{get_or_past, take_more, length-take-le}
 use Rattle.std.proofs.lemmas.Bool.{cases_Bool, cases_lt, cond_both, cond-true, cond-false, leb-false, ltb-false, ltb-true}
 use Rattle.event.specs.declared.Message.{Message}
@@ -48,8 +48,8 @@ start_fits places capacity end i s e = go (cases_Bool (leb places s.receiver)) (
 
 -- where none is refused
 pub record Loads (places capacity end i : ℕ) (ss : List Start) : Type 0 where
-  pub placed : All (λ s. s.receiver < places) ss
-  pub timely : All (λ s. s.time ≤ end) ss
+  pub placed : AllByRecursion (λ s. s.receiver < places) ss
+  pub timely : AllByRecursion (λ s. s.time ≤ end) ss
   pub few : i + length ss ≤ capacity
 
 or_none : (o p : Option DayFault) → or_else o p ≡ None → (o ≡ None) × (p ≡ None)
@@ -75,9 +75,9 @@ load_fits places capacity end ss e = go (cases_Bool (ltb 1000000 end))
 
 -- what holds of each start holds of each place of the list that waits
 pub starts_wait : (Q : Start → Type 0) (P : Message → Type 0) → ((n : ℕ) (s : Start) → Q s → P (message_of n s)) → P blank → (ss : List Start) (waiting : List Message)
-    → waiting ≡ insert_all key_of (numbered 0 ss) [] → All Q ss → (i : ℕ) → P (get_or waiting i blank)
+    → waiting ≡ insert_all key_of (numbered 0 ss) [] → AllByRecursion Q ss → (i : ℕ) → P (get_or waiting i blank)
 starts_wait Q P f z ss waiting e h =
-    places_by_all P blank waiting z (subst (All P) (sym e) (all_insert_all key_of P (numbered 0 ss) [] (numbered_all Q P f 0 ss h) tt))
+    places_by_all P blank waiting z (subst (AllByRecursion P) (sym e) (all_insert_all key_of P (numbered 0 ss) [] (numbered_all Q P f 0 ss h) tt))
 
 -- the cells as the day begins
 module _ (M : Meaning) (cells : List Place) (long : length cells ≡ 32) (begun : (p : ℕ) → p < 32 → get_or cells p blank_place ≡ starting_place M p) where

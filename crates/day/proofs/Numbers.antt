@@ -1,6 +1,6 @@
 -- Messages that one sender numbers in sequence.
 use Rattle.std.proofs.Common.{◌≡◌, ℕ, suc, ◌+◌, ◌<◌, ◌≤◌, List, [], ◌∷◌, length, refl, ap, arith}
-use Rattle.std.specs.List.{AllByRecursion as All}
+use Rattle.std.specs.List.{AllByRecursion}
 use Rattle.std.proofs.ByRecursion.{All-weaker}
 use Rattle.event.specs.declared.Key.{Key}
 use Rattle.event.specs.declared.Message.{Message}
@@ -29,7 +29,7 @@ starts_sequence n [] = tt
 starts_sequence n (s ∷ ss) = (refl, refl, starts_sequence (suc n) ss)
 
 -- what holds of each start holds of its message
-pub numbered_all : (Q : Start → Type 0) (P : Message → Type 0) → ((n : ℕ) (s : Start) → Q s → P (message_of n s)) → (n : ℕ) (ss : List Start) → All Q ss → All P (numbered n ss)
+pub numbered_all : (Q : Start → Type 0) (P : Message → Type 0) → ((n : ℕ) (s : Start) → Q s → P (message_of n s)) → (n : ℕ) (ss : List Start) → AllByRecursion Q ss → AllByRecursion P (numbered n ss)
 numbered_all Q P f n [] h = tt
 numbered_all Q P f n (s ∷ ss) h = (f n s h.0, numbered_all Q P f (suc n) ss h.1)
 
@@ -39,7 +39,7 @@ pub record Between (s low high : ℕ) (m : Message) : Type 0 where
   pub least : low ≤ m.number
   pub most : m.number < high
 
-pub sequence_between : (s n : ℕ) (ms : List Message) → InSequence s n ms → All (Between s n (n + length ms)) ms
+pub sequence_between : (s n : ℕ) (ms : List Message) → InSequence s n ms → AllByRecursion (Between s n (n + length ms)) ms
 sequence_between s n [] h = tt
 sequence_between s n (m ∷ ms) h =
     let e = h.1 in (

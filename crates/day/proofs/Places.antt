@@ -1,6 +1,6 @@
 -- What holds of each message or place of a list, by places and by elements.
 use Rattle.std.proofs.Common.{◌≡◌, ℕ, zero, suc, ◌<◌, List, [], ◌∷◌, length, get_or, set, Some, None, Option, sym, ap, ◌∙◌, subst, ⊎_elim, arith, get_or-set_other, get_or-set_same}
-use Rattle.std.specs.List.{AllByRecursion as All}
+use Rattle.std.specs.List.{AllByRecursion}
 use Rattle.std.proofs.ByRecursion.{All-from_get_or}
 use Rattle.std.proofs.lemmas.Bool.{cases_eq}
 use Rattle.event.specs.Lists.{first}
@@ -9,10 +9,10 @@ pub none_some : {X : Type 0} (x : X) → ◌≡◌ {A = Option X} None (Some x) 
 none_some x e = let z : ◌≡◌ {A = ℕ} 0 1 = cc in omega arith
 
 module _ {X : Type 0} (P : X → Type 0) (d : X) where
-  pub all_by_places : (xs : List X) → ((i : ℕ) → P (get_or xs i d)) → All P xs
+  pub all_by_places : (xs : List X) → ((i : ℕ) → P (get_or xs i d)) → AllByRecursion P xs
   all_by_places xs h = All-from_get_or P xs d (λ i _. h i)
 
-  pub places_by_all : (xs : List X) → P d → All P xs → (i : ℕ) → P (get_or xs i d)
+  pub places_by_all : (xs : List X) → P d → AllByRecursion P xs → (i : ℕ) → P (get_or xs i d)
   places_by_all [] p h i = p
   places_by_all (x ∷ xs) p h zero = h.0
   places_by_all (x ∷ xs) p h (suc i) = places_by_all xs p h.1 i

@@ -1,6 +1,6 @@
 -- Every day run alone is tidy.
 use Rattle.std.proofs.Common.{◌≡◌, ℕ, suc, ◌+◌, ◌<◌, ◌≤◌, true, eqb, leb, List, [], ◌∷◌, ◌++◌, length, Some, None, Option, sym, refl, ap, ◌∙◌, subst, append_assoc, arith}
-use Rattle.std.specs.List.{AllByRecursion as All}
+use Rattle.std.specs.List.{AllByRecursion}
 use Rattle.std.proofs.ByRecursion.{All-weaker, all_kept_by, All-push}
 use Rattle.std.proofs.lemmas.Bool.{cond_both, cond-true, eq-eqb, eqb-true}
 use Rattle.event.specs.declared.Key.{Key}
@@ -22,7 +22,7 @@ use Rattle.day.proofs.Places.{none_some}
 use Rattle.day.proofs.Numbers.{InSequence, Between, length_stamped, stamped_sequence, starts_sequence, numbered_all, sequence_between, sequence_distinct}
 
 -- what is stamped comes later
-pub stamped_later : (n now s from : ℕ) (ss : List Sent) → All (Within n) ss → All (λ m. now < m.time) (stamped now s from ss)
+pub stamped_later : (n now s from : ℕ) (ss : List Sent) → AllByRecursion (Within n) ss → AllByRecursion (λ m. now < m.time) (stamped now s from ss)
 stamped_later n now s from [] h = tt
 stamped_later n now s from (x ∷ ss) h = let a = h.0.least in (omega arith, stamped_later n now s (suc from) ss h.1)
 
@@ -41,19 +41,19 @@ module _ (M : Meaning) (law : Law M) (end : ℕ) (d : Day) (t : Tidy M d) (m : M
   split = first_rest d.waiting m e
 
   inside : m.receiver < M.places
-  inside = (subst (All (λ x. x.receiver < M.places)) split t.received).0
+  inside = (subst (AllByRecursion (λ x. x.receiver < M.places)) split t.received).0
 
-  lawful : All (Within M.places) sends
+  lawful : AllByRecursion (Within M.places) sends
   lawful = law.lawful m.receiver (d.place m.receiver).order (d.place m.receiver).words (arrival_of m)
 
   in_sequence : InSequence m.receiver (d.place m.receiver).sent sent
   in_sequence = stamped_sequence m.time m.receiver (d.place m.receiver).sent sends
 
-  spread : All (Between m.receiver (d.place m.receiver).sent ((d.place m.receiver).sent + length sent)) sent
+  spread : AllByRecursion (Between m.receiver (d.place m.receiver).sent ((d.place m.receiver).sent + length sent)) sent
   spread = sequence_between m.receiver (d.place m.receiver).sent sent in_sequence
 
   -- the whole journal comes before what is sent
-  journal_first : (x : Message) → m.time < x.time → All (λ j. before (key_of j) (key_of x) ≡ true) (d.journal ++ m ∷ [])
+  journal_first : (x : Message) → m.time < x.time → AllByRecursion (λ j. before (key_of j) (key_of x) ≡ true) (d.journal ++ m ∷ [])
   journal_first x h =
       All-push (λ j. before (key_of j) (key_of x) ≡ true) d.journal m
       (All-weaker (λ j. before (key_of j) (key_of m) ≡ true) (λ j. before (key_of j) (key_of x) ≡ true) (λ j b. chain (key_of j) (key_of m) (key_of x) b (sooner (key_of m) (key_of x) h)) d.journal
@@ -64,7 +64,7 @@ module _ (M : Meaning) (law : Law M) (end : ℕ) (d : Day) (t : Tidy M d) (m : M
       whole = subst (λ (l : List Message). Rising key_of (d.journal ++ l)) split t.rising
 
   -- none that waits has the key of one that is sent
-  fresh : (x : Message) → Between m.receiver (d.place m.receiver).sent ((d.place m.receiver).sent + length sent) x → All (λ y. key_of x ≡ key_of y → ⊥) (rest d.waiting)
+  fresh : (x : Message) → Between m.receiver (d.place m.receiver).sent ((d.place m.receiver).sent + length sent) x → AllByRecursion (λ y. key_of x ≡ key_of y → ⊥) (rest d.waiting)
   fresh x b =
       all_rest (λ y. key_of x ≡ key_of y → ⊥) d.waiting
       (All-weaker (λ y. y.sender < M.places → y.number < (d.place y.sender).sent) (λ y. key_of x ≡ key_of y → ⊥) apart d.waiting t.numbered)
@@ -86,9 +86,9 @@ module _ (M : Meaning) (law : Law M) (end : ℕ) (d : Day) (t : Tidy M d) (m : M
   pub tidy_at : Tidy M (event_at M end d (Some m))
   tidy_at = record {
     rising = rising_insert_all key_of (d.journal ++ m ∷ []) (within end sent) (rest d.waiting)
-        (kept (λ x. All (λ j. before (key_of j) (key_of x) ≡ true) (d.journal ++ m ∷ [])) (All-weaker (λ x. m.time < x.time) _ journal_first sent (stamped_later M.places m.time m.receiver (d.place m.receiver).sent sends lawful)))
+        (kept (λ x. AllByRecursion (λ j. before (key_of j) (key_of x) ≡ true) (d.journal ++ m ∷ [])) (All-weaker (λ x. m.time < x.time) _ journal_first sent (stamped_later M.places m.time m.receiver (d.place m.receiver).sent sends lawful)))
         (distinct_kept_by key_of (λ x. leb x.time end) sent (sequence_distinct m.receiver (d.place m.receiver).sent sent in_sequence))
-        (kept (λ x. All (λ y. key_of x ≡ key_of y → ⊥) (rest d.waiting)) (All-weaker _ _ fresh sent spread))
+        (kept (λ x. AllByRecursion (λ y. key_of x ≡ key_of y → ⊥) (rest d.waiting)) (All-weaker _ _ fresh sent spread))
         (subst (Rising key_of) (sym (append_assoc d.journal (m ∷ []) (rest d.waiting))) (subst (λ (l : List Message). Rising key_of (d.journal ++ l)) split t.rising));
     numbered = all_insert_all key_of Numbered (within end sent) (rest d.waiting) (kept Numbered (All-weaker _ Numbered new sent spread))
         (all_rest Numbered d.waiting (All-weaker _ Numbered (λ x u i. let a = u i in let b = grown x.sender in omega arith) d.waiting t.numbered));
@@ -96,7 +96,7 @@ module _ (M : Meaning) (law : Law M) (end : ℕ) (d : Day) (t : Tidy M d) (m : M
         (kept (λ x. x.receiver < M.places) (stamped_receivers M.places m.time m.receiver (d.place m.receiver).sent sends lawful)) (all_rest (λ x. x.receiver < M.places) d.waiting t.received);
   }
     where
-      kept : (P : Message → Type 0) → All P sent → All P (within end sent)
+      kept : (P : Message → Type 0) → AllByRecursion P sent → AllByRecursion P (within end sent)
       kept P h = all_kept_by (λ x. leb x.time end) P sent h
 
       Numbered : Message → Type 0
@@ -127,7 +127,7 @@ tidy_order M d place value t = record {
         cond_both (eqb q place) (ordered_place (d.place place) value) (d.place q) (λ p. (d.place q).sent ≡ p.sent)
         (λ h. ap (λ (i : ℕ). (d.place i).sent) (eqb-true q place h)) (λ _. refl)
 
-pub tidy_starts : (M : Meaning) → Law M → (starts : List Start) → All (λ s. s.receiver < M.places) starts → Tidy M (starting M starts)
+pub tidy_starts : (M : Meaning) → Law M → (starts : List Start) → AllByRecursion (λ s. s.receiver < M.places) starts → Tidy M (starting M starts)
 tidy_starts M law starts h = record {
   rising = rising_insert_all key_of [] (numbered 0 starts) [] (every (numbered 0 starts)) (sequence_distinct 255 0 (numbered 0 starts) (starts_sequence 0 starts)) (every (numbered 0 starts)) tt;
   numbered = all_insert_all key_of (λ m. m.sender < M.places → m.number < 0) (numbered 0 starts) []
@@ -136,7 +136,7 @@ tidy_starts M law starts h = record {
   received = all_insert_all key_of (λ m. m.receiver < M.places) (numbered 0 starts) [] (numbered_all (λ s. s.receiver < M.places) (λ m. m.receiver < M.places) (λ n s r. r) 0 starts h) tt;
 }
   where
-    every : (ms : List Message) → All (λ m. Unit {0}) ms
+    every : (ms : List Message) → AllByRecursion (λ m. Unit {0}) ms
     every [] = tt
     every (m ∷ ms) = (tt, every ms)
 

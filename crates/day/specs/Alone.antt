@@ -1,6 +1,6 @@
 -- The day run alone under a list of orders, and what any mixture of events and orders makes of a day.
 use Rattle.std.specs.Prelude.{◌≡◌, ℕ, zero, suc, ◌≤◌, cond, List, [], ◌∷◌, length, ◌==◌}
-use Rattle.std.specs.List.{AllByRecursion as All}
+use Rattle.std.specs.List.{AllByRecursion}
 use Rattle.event.specs.declared.Start.{Start}
 use Rattle.model.specs.Meaning.{Meaning}
 use Rattle.day.specs.Day.{Day, event, ordered, starting}
@@ -24,7 +24,7 @@ alone M end starts orders (suc n) = ordered_at (suc n) orders (event M end (alon
 -- d is the day run alone from these starts under these orders, after as many events as it has run
 pub record Alone (M : Meaning) (end : ℕ) (starts : List Start) (orders : List Order) (d : Day) : Type 0 where
   pub day : d ≡ alone M end starts orders (length d.journal)
-  pub past : All (λ o. o.position ≤ length d.journal) orders
+  pub past : AllByRecursion (λ o. o.position ≤ length d.journal) orders
 
 -- an order as it is given now
 abbrev pub order_now : Day → ℕ → ℕ → Order

@@ -1,7 +1,7 @@
 -- A plan that is written out is read back.
 use Rattle.std.proofs.Common.{◌≡◌, ℕ, ◌+◌, ◌-◌, ◌*◌, ◌≤◌, Bool, true, false, ◌&&◌, leb, ◌⊎◌, List, [], ◌∷◌, ◌++◌, map, Some, None, Ok, codes, decimal, fold, filter, Option, Result, sym, refl, ap, ◌∙◌, inl, inr, append_assoc, append-nil, arith, rules}
 use Rattle.std.specs.Char.{is_ascii_digit}
-use Rattle.std.specs.List.{flat_map, AllByRecursion as All}
+use Rattle.std.specs.List.{flat_map, AllByRecursion}
 use Rattle.std.specs.Str.{all_ascii_digits}
 use Rattle.std.proofs.lemmas.Fmt.{digits_decimal, digits_value-decimal, decimal_nonempty}
 use Rattle.std.proofs.ByRecursion.{All-weaker, All-append}
@@ -25,15 +25,15 @@ use Rattle.dayfile.proofs.Digits.{some_so}
 
 module _ (mark : ℕ → Bool) where
   -- a piece goes up to its mark
-  piece_cut : (p : List ℕ) (c : ℕ) (rest : List ℕ) → All (λ x. mark x ≡ false) p → mark c ≡ true → pieces mark (p ++ (c ∷ rest)) ≡ p ∷ pieces mark rest
+  piece_cut : (p : List ℕ) (c : ℕ) (rest : List ℕ) → AllByRecursion (λ x. mark x ≡ false) p → mark c ≡ true → pieces mark (p ++ (c ∷ rest)) ≡ p ∷ pieces mark rest
   piece_cut [] c rest h e = cond-true _ _ _ e
   piece_cut (x ∷ p) c rest h e = cond-false _ _ _ h.0 ∙ ap (fronted x) (piece_cut p c rest h.1 e)
 
-  piece_last : (x : ℕ) (p : List ℕ) → All (λ x. mark x ≡ false) (x ∷ p) → pieces mark (x ∷ p) ≡ (x ∷ p) ∷ []
+  piece_last : (x : ℕ) (p : List ℕ) → AllByRecursion (λ x. mark x ≡ false) (x ∷ p) → pieces mark (x ∷ p) ≡ (x ∷ p) ∷ []
   piece_last x [] h = cond-false _ _ _ h.0
   piece_last x (y ∷ p) h = cond-false _ _ _ h.0 ∙ ap (fronted x) (piece_last y p h.1)
 
-  before_all : (p : List ℕ) → All (λ x. mark x ≡ false) p → before mark p ≡ p
+  before_all : (p : List ℕ) → AllByRecursion (λ x. mark x ≡ false) p → before mark p ≡ p
   before_all [] h = refl
   before_all (x ∷ p) h = cond-false _ _ _ h.0 ∙ ap (λ l. x ∷ l) (before_all p h.1)
 
@@ -43,38 +43,38 @@ Plain c = 36 ≤ c
 
 record Word (w : List ℕ) : Type 0 where
   some : some w ≡ true
-  plain : All Plain w
+  plain : AllByRecursion Plain w
 
 plain_blank : (c : ℕ) → Plain c → blank c ≡ false
 plain_blank c h = or_from _ _ (ne_eqb c 32 (λ e. omega arith)) (or_from _ _ (ne_eqb c 9 (λ e. omega arith)) (ne_eqb c 13 (λ e. omega arith)))
 
 -- words and the spaces between them
-all_spaced : (P : ℕ → Type 0) → P 32 → (ws : List (List ℕ)) → All (All P) ws → All P (spaced ws)
+all_spaced : (P : ℕ → Type 0) → P 32 → (ws : List (List ℕ)) → AllByRecursion (AllByRecursion P) ws → AllByRecursion P (spaced ws)
 all_spaced P b [] h = tt
 all_spaced P b (w ∷ []) h = h.0
 all_spaced P b (w ∷ v ∷ ws) h = All-append P w (32 ∷ spaced (v ∷ ws)) h.0 (b, all_spaced P b (v ∷ ws) h.1)
 
-all_plain : (ws : List (List ℕ)) → All Word ws → (mark : ℕ → Bool) → mark 32 ≡ false → ((c : ℕ) → Plain c → mark c ≡ false) → All (λ c. mark c ≡ false) (spaced ws)
+all_plain : (ws : List (List ℕ)) → AllByRecursion Word ws → (mark : ℕ → Bool) → mark 32 ≡ false → ((c : ℕ) → Plain c → mark c ≡ false) → AllByRecursion (λ c. mark c ≡ false) (spaced ws)
 all_plain ws h mark b f =
     all_spaced (λ c. mark c ≡ false) b ws
-    (All-weaker Word (All (λ c. mark c ≡ false)) (λ w k. All-weaker Plain (λ c. mark c ≡ false) f w k.plain) ws h)
+    (All-weaker Word (AllByRecursion (λ c. mark c ≡ false)) (λ w k. All-weaker Plain (λ c. mark c ≡ false) f w k.plain) ws h)
 
 -- the words of what is written, after its comment is cut
 words_one : (w : List ℕ) → Word w → words_of w ≡ w ∷ []
 words_one [] h = absurd (both_ways false refl h.some)
 words_one (c ∷ w) h = ap (filter some) (piece_last blank c w (All-weaker Plain (λ c. blank c ≡ false) plain_blank (c ∷ w) h.plain))
 
-words_spaced : (ws : List (List ℕ)) → All Word ws → words_of (spaced ws) ≡ ws
+words_spaced : (ws : List (List ℕ)) → AllByRecursion Word ws → words_of (spaced ws) ≡ ws
 words_spaced [] h = refl
 words_spaced (w ∷ []) h = words_one w h.0
 words_spaced (w ∷ v ∷ ws) h =
     ap (filter some) (piece_cut blank w 32 (spaced (v ∷ ws)) (All-weaker Plain (λ c. blank c ≡ false) plain_blank w h.0.plain) refl)
     ∙ cond-true _ _ _ h.0.some ∙ ap (λ l. w ∷ l) (words_spaced (v ∷ ws) h.1)
 
-words_said : (ws : List (List ℕ)) → All Word ws → words_of (said (spaced ws)) ≡ ws
+words_said : (ws : List (List ℕ)) → AllByRecursion Word ws → words_of (said (spaced ws)) ≡ ws
 words_said ws h = ap words_of (before_all (marks Hash) (spaced ws) (all_plain ws h (marks Hash) refl (λ c k. ne_eqb c 35 (λ e. omega arith)))) ∙ words_spaced ws h
 
-lines_written : (ls : List (List (List ℕ))) → All (All Word) ls → lines_of (flat_map (λ ws. spaced ws ++ (10 ∷ [])) ls) ≡ map spaced ls
+lines_written : (ls : List (List (List ℕ))) → AllByRecursion (AllByRecursion Word) ls → lines_of (flat_map (λ ws. spaced ws ++ (10 ∷ [])) ls) ≡ map spaced ls
 lines_written [] h = refl
 lines_written (ws ∷ ls) h =
     ap lines_of (append_assoc (spaced ws) (10 ∷ []) (flat_map (λ ws. spaced ws ++ (10 ∷ [])) ls))
@@ -85,7 +85,7 @@ lines_written (ws ∷ ls) h =
 own : IsNumeralModel (λ ds. all_ascii_digits ds ≡ true) value_of
 own = numerals_by_fold _ tells_all_ascii_digits (λ n ds. fold (λ n c. n * 10 + (c - 48)) n ds) (search rules)
 
-plain_digits : (ds : List ℕ) → all_ascii_digits ds ≡ true → All Plain ds
+plain_digits : (ds : List ℕ) → all_ascii_digits ds ≡ true → AllByRecursion Plain ds
 plain_digits [] h = tt
 plain_digits (c ∷ ds) h =
     let k = and_parts (is_ascii_digit c) (all_ascii_digits ds) h in
@@ -103,7 +103,7 @@ number_decimal low high n l h b =
     cond-true _ _ _ is ∙ cond-true _ _ _ at ∙ ap (λ m. Ok m) v
 
 -- one line
-read_line : (n : ℕ) (t : Told) (ws : List (List ℕ)) (e : Entry) (ls : List (List ℕ)) → All Word ws → entry_of t.settings ws ≡ Ok e → read_on n t (spaced ws ∷ ls) ≡ read_on (n + 1) (noted n t e) ls
+read_line : (n : ℕ) (t : Told) (ws : List (List ℕ)) (e : Entry) (ls : List (List ℕ)) → AllByRecursion Word ws → entry_of t.settings ws ≡ Ok e → read_on n t (spaced ws ∷ ls) ≡ read_on (n + 1) (noted n t e) ls
 read_line n t ws e ls h k = ap (λ r. then (then (at_line n r) (λ e. Ok (noted n t e))) (λ t. read_on (n + 1) t ls)) (ap (entry_of t.settings) (words_said ws h) ∙ k)
 
 entry_milked : (s : Settings) (f : ℕ) (m : Start) → s.farms ≡ Some f → f ≤ 255 → Farmed f m → m.time ≤ 4294967295 → m.«data» ≤ 4294967295 → entry_of s (milked_words m) ≡ Ok (Milked m)
@@ -131,27 +131,27 @@ abbrev plainly : List ℕ → Bool
 plainly [] = true
 plainly (c ∷ w) = leb 36 c && plainly w
 
-plain_by : (w : List ℕ) → plainly w ≡ true → All Plain w
+plain_by : (w : List ℕ) → plainly w ≡ true → AllByRecursion Plain w
 plain_by [] h = tt
 plain_by (c ∷ w) h = let k = and_parts (leb 36 c) (plainly w) h in (leb-true 36 c k.0, plain_by w k.1)
 
 word_by : (w : List ℕ) → some w ≡ true → plainly w ≡ true → Word w
 word_by w s h = record { some = s; plain = plain_by w h }
 
-words_setting : (w : List ℕ) (n : ℕ) → Word w → n ≤ 4294967295 → All Word (w ∷ decimal n ∷ [])
+words_setting : (w : List ℕ) (n : ℕ) → Word w → n ≤ 4294967295 → AllByRecursion Word (w ∷ decimal n ∷ [])
 words_setting w n h b = (h, (word_decimal n b, tt))
 
-words_milked : (m : Start) → m.receiver ≤ 255 → m.time ≤ 4294967295 → m.«data» ≤ 4294967295 → All Word (milked_words m)
+words_milked : (m : Start) → m.receiver ≤ 255 → m.time ≤ 4294967295 → m.«data» ≤ 4294967295 → AllByRecursion Word (milked_words m)
 words_milked m b t d =
     (word_by (codes "milked") refl refl, (word_decimal m.receiver (omega arith), (word_decimal m.«data» d, (word_by (codes "at") refl refl, (word_decimal m.time t, tt)))))
 
 -- the milkings, after the settings
 module _ (f k e : ℕ) (small : f ≤ 255) where
-  words_all : (ms : List Start) → All (Farmed f) ms → All (λ m. m.time ≤ 4294967295) ms → All (λ m. m.«data» ≤ 4294967295) ms → All (All Word) (map milked_words ms)
+  words_all : (ms : List Start) → AllByRecursion (Farmed f) ms → AllByRecursion (λ m. m.time ≤ 4294967295) ms → AllByRecursion (λ m. m.«data» ≤ 4294967295) ms → AllByRecursion (AllByRecursion Word) (map milked_words ms)
   words_all [] h u v = tt
   words_all (m ∷ ms) h u v = (words_milked m (omega (arith, h.0.most)) u.0 v.0, words_all ms h.1 u.1 v.1)
 
-  read_milked : (ms : List Start) (n : ℕ) (old : List Start) (ls : List ℕ) → All (Farmed f) ms → All (λ m. m.time ≤ 4294967295) ms → All (λ m. m.«data» ≤ 4294967295) ms
+  read_milked : (ms : List Start) (n : ℕ) (old : List Start) (ls : List ℕ) → AllByRecursion (Farmed f) ms → AllByRecursion (λ m. m.time ≤ 4294967295) ms → AllByRecursion (λ m. m.«data» ≤ 4294967295) ms
       → read_on n (record { settings = set (Some f) (Some k) (Some e); starts = old; lines = ls }) (map spaced (map milked_words ms))
       ≡ Ok (record { farms = f; tankers = k; end = e; starts = old ++ ms; lines = ls ++ counted n ms })
   read_milked [] n old ls h u v = λ i. Ok (record { farms = f; tankers = k; end = e; starts = sym (append-nil old) i; lines = sym (append-nil ls) i })
@@ -181,7 +181,7 @@ read_words s w =
 pub read_back : (s : Sheet) → Writable s → read_text (written s) ≡ Ok s
 unfolding written
 read_back s w =
-    let words : All (All Word) (written_words s) = (
+    let words : AllByRecursion (AllByRecursion Word) (written_words s) = (
       words_setting (codes "farms") s.farms (word_by (codes "farms") refl refl) (omega (arith, w.farms)),
       (
         words_setting (codes "tankers") s.tankers (word_by (codes "tankers") refl refl) (omega (arith, w.tankers)),

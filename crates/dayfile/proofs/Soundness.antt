@@ -1,6 +1,6 @@
 -- Every start of a plan is milk at one of its farms, and has its line.
 use Rattle.std.proofs.Common.{◌≡◌, ℕ, ◌+◌, ◌≤◌, cond, ◌&&◌, leb, ◌⊎◌, List, [], ◌∷◌, ◌++◌, length, IfOk, Some, None, Ok, Err, Option, Result, sym, refl, ap, ◌∙◌, subst, inl, inr, MatchOption}
-use Rattle.std.specs.List.{AllByRecursion as All}
+use Rattle.std.specs.List.{AllByRecursion}
 use Rattle.std.proofs.ByRecursion.{All-push}
 use Rattle.std.proofs.lemmas.List.{length_push}
 use Rattle.std.proofs.lemmas.Bool.{cond_both, and_parts, leb-true}
@@ -89,7 +89,7 @@ made_at P n (Err k) h = tt
 
 -- the starts so far are milk at the farms given, and have their lines
 abbrev Held : Option ℕ → List Start → Type 0
-Held farms starts = MatchOption farms (starts ≡ []) (λ f. All (Farmed f) starts)
+Held farms starts = MatchOption farms (starts ≡ []) (λ f. AllByRecursion (Farmed f) starts)
 
 record Kept (t : Told) : Type 0 where
   held : Held t.settings.farms t.starts
@@ -97,7 +97,7 @@ record Kept (t : Told) : Type 0 where
 
 held_none : (o : Option ℕ) (starts : List Start) → Held None starts → Held o starts
 held_none None starts h = h
-held_none (Some f) starts h = subst (All (Farmed f)) (sym h) tt
+held_none (Some f) starts h = subst (AllByRecursion (Farmed f)) (sym h) tt
 
 held_more : (o : Option ℕ) (starts : List Start) (m : Start) → Held o starts → MatchOption o ⊥ (λ f. Farmed f m) → Held o (starts ++ m ∷ [])
 held_more None starts m h k = absurd k

@@ -1,6 +1,6 @@
 -- What holds of every plan that is read.
 use Rattle.std.specs.Prelude.{◌≡◌, ℕ, ◌≤◌, length}
-use Rattle.std.specs.List.{AllByRecursion as All}
+use Rattle.std.specs.List.{AllByRecursion}
 use Rattle.event.specs.declared.Start.{Start}
 use Rattle.dayfile.specs.Plans.{Sheet}
 
@@ -12,5 +12,5 @@ pub record Farmed (farms : ℕ) (m : Start) : Type 0 where
 
 -- every start tells milk to a farm of the plan, and has its line
 pub record Sound (s : Sheet) : Type 0 where
-  pub farmed : All (Farmed s.farms) s.starts
+  pub farmed : AllByRecursion (Farmed s.farms) s.starts
   pub lined : length s.lines ≡ length s.starts

@@ -1,6 +1,6 @@
 -- A plan written out as a day file.
 use Rattle.std.specs.Prelude.{◌≡◌, ℕ, ◌+◌, ◌≤◌, List, [], ◌∷◌, ◌++◌, map, codes, decimal}
-use Rattle.std.specs.List.{flat_map, AllByRecursion as All}
+use Rattle.std.specs.List.{flat_map, AllByRecursion}
 use Rattle.event.specs.declared.Start.{Start}
 use Rattle.dayfile.specs.Plans.{Sheet}
 use Rattle.dayfile.specs.Laws.{Farmed}
@@ -33,7 +33,7 @@ pub record Writable (s : Sheet) : Type 0 where
   pub farms : s.farms ≤ 255
   pub tankers : s.tankers ≤ 255
   pub end : s.end ≤ 4294967295
-  pub farmed : All (Farmed s.farms) s.starts
-  pub times : All (λ m. m.time ≤ 4294967295) s.starts
-  pub litres : All (λ m. m.«data» ≤ 4294967295) s.starts
+  pub farmed : AllByRecursion (Farmed s.farms) s.starts
+  pub times : AllByRecursion (λ m. m.time ≤ 4294967295) s.starts
+  pub litres : AllByRecursion (λ m. m.«data» ≤ 4294967295) s.starts
   pub lines : s.lines ≡ counted 4 s.starts

@@ -1,6 +1,6 @@
 -- The laws of insertion by key, of anything that has a key.
 use Rattle.std.proofs.Common.{◌≡◌, ℕ, zero, suc, ◌+◌, ◌<◌, ◌≤◌, Bool, true, false, cond, ◌⊎◌, List, [], ◌∷◌, ◌++◌, map, length, get_or, filter, sym, refl, ap, inl, inr, ⊎_elim, arith}
-use Rattle.std.specs.List.{insert as inserted, AllByRecursion as All}
+use Rattle.std.specs.List.{insert as inserted, AllByRecursion}
 use Rattle.std.specs.List.Sorted.{IsPermutation}
 use Rattle.std.proofs.ByRecursion.{All-weaker, all_kept_by}
 use Rattle.std.proofs.lemmas.List.Sorted.{IsPermutation-refl, IsPermutation-cons, IsPermutation-trans, IsPermutation-swap}
@@ -20,12 +20,12 @@ module _ {X : Type 0} (key : X → Key) where
   length_insert m (x ∷ xs) =
       cond_both (before (key m) (key x)) (m ∷ x ∷ xs) (x ∷ insert key m xs) (λ l. length l ≡ suc (suc (length xs))) (λ _. refl) (λ _. ap suc (length_insert m xs))
 
-  pub all_insert : (P : X → Type 0) (m : X) (xs : List X) → P m → All P xs → All P (insert key m xs)
+  pub all_insert : (P : X → Type 0) (m : X) (xs : List X) → P m → AllByRecursion P xs → AllByRecursion P (insert key m xs)
   all_insert P m [] p h = (p, tt)
   all_insert P m (x ∷ xs) p h =
-      cond_both (before (key m) (key x)) (m ∷ x ∷ xs) (x ∷ insert key m xs) (All P) (λ _. (p, h)) (λ _. (h.0, all_insert P m xs p h.1))
+      cond_both (before (key m) (key x)) (m ∷ x ∷ xs) (x ∷ insert key m xs) (AllByRecursion P) (λ _. (p, h)) (λ _. (h.0, all_insert P m xs p h.1))
 
-  pub all_insert_all : (P : X → Type 0) (ms xs : List X) → All P ms → All P xs → All P (insert_all key ms xs)
+  pub all_insert_all : (P : X → Type 0) (ms xs : List X) → AllByRecursion P ms → AllByRecursion P xs → AllByRecursion P (insert_all key ms xs)
   all_insert_all P [] xs a h = h
   all_insert_all P (m ∷ ms) xs a h = all_insert_all P ms (insert key m xs) a.1 (all_insert P m xs a.0 h)
 
@@ -53,7 +53,7 @@ module _ {X : Type 0} (key : X → Key) where
   sorted_insert_all (m ∷ ms) xs s = sorted_insert_all ms (insert key m xs) (sorted_insert m xs s)
 
   -- what comes before all goes to the front
-  pub insert_front : (m : X) (xs : List X) → All (λ y. before (key m) (key y) ≡ true) xs → insert key m xs ≡ m ∷ xs
+  pub insert_front : (m : X) (xs : List X) → AllByRecursion (λ y. before (key m) (key y) ≡ true) xs → insert key m xs ≡ m ∷ xs
   insert_front m [] h = refl
   insert_front m (x ∷ xs) h = let b = h.0 in simp b
 
@@ -67,7 +67,7 @@ module _ {X : Type 0} (key : X → Key) where
             → filter p (insert key m (x ∷ xs)) ≡ insert key m (filter p (x ∷ xs))
         go (inl b) (inl e) ih = simp (b, i, e)
         go (inl b) (inr e) ih =
-            let all : All (λ y. before (key m) (key y) ≡ true) xs = All-weaker (λ y. before (key y) (key x) ≡ false) (λ y. before (key m) (key y) ≡ true) (λ y k. through (key m) (key x) (key y) b k) xs s.0 in
+            let all : AllByRecursion (λ y. before (key m) (key y) ≡ true) xs = All-weaker (λ y. before (key y) (key x) ≡ false) (λ y. before (key m) (key y) ≡ true) (λ y k. through (key m) (key x) (key y) b k) xs s.0 in
             simp (b, i, e) (sym (insert_front m (filter p xs) (all_kept_by p (λ y. before (key m) (key y) ≡ true) xs all)))
         go (inr b) (inl e) ih = simp (b, e) (ap (λ l. x ∷ l) ih)
         go (inr b) (inr e) ih = simp (b, e) ih
@@ -105,11 +105,11 @@ module _ {X : Type 0} (key : X → Key) where
   insert_all_append (m ∷ ms) ns xs = insert_all_append ms ns (insert key m xs)
 
   -- behind a front that comes before m, keys go on strictly ascending if none is that of m
-  pub rising_insert : (front : List X) (m : X) (xs : List X) → All (λ f. before (key f) (key m) ≡ true) front → All (λ y. key m ≡ key y → ⊥) xs
+  pub rising_insert : (front : List X) (m : X) (xs : List X) → AllByRecursion (λ f. before (key f) (key m) ≡ true) front → AllByRecursion (λ y. key m ≡ key y → ⊥) xs
       → Rising key (front ++ xs) → Rising key (front ++ insert key m xs)
   rising_insert (f ∷ front) m xs a n h = (reach front h.0, rising_insert front m xs a.1 n h.1)
     where
-      reach : (ys : List X) → All (λ y. before (key f) (key y) ≡ true) (ys ++ xs) → All (λ y. before (key f) (key y) ≡ true) (ys ++ insert key m xs)
+      reach : (ys : List X) → AllByRecursion (λ y. before (key f) (key y) ≡ true) (ys ++ xs) → AllByRecursion (λ y. before (key f) (key y) ≡ true) (ys ++ insert key m xs)
       reach [] g = all_insert (λ y. before (key f) (key y) ≡ true) m xs a.0 g
       reach (y ∷ ys) g = (g.0, reach ys g.1)
   rising_insert [] m [] a n h = (tt, tt)
@@ -123,13 +123,13 @@ module _ {X : Type 0} (key : X → Key) where
       after b (inr t) = absurd (n.0 (apart (key m) (key x) b t))
 
   -- the same of several, no two of which have one key
-  pub rising_insert_all : (front ms xs : List X) → All (λ m. All (λ f. before (key f) (key m) ≡ true) front) ms → Distinct key ms
-      → All (λ m. All (λ y. key m ≡ key y → ⊥) xs) ms → Rising key (front ++ xs) → Rising key (front ++ insert_all key ms xs)
+  pub rising_insert_all : (front ms xs : List X) → AllByRecursion (λ m. AllByRecursion (λ f. before (key f) (key m) ≡ true) front) ms → Distinct key ms
+      → AllByRecursion (λ m. AllByRecursion (λ y. key m ≡ key y → ⊥) xs) ms → Rising key (front ++ xs) → Rising key (front ++ insert_all key ms xs)
   rising_insert_all front [] xs a d n h = h
   rising_insert_all front (m ∷ ms) xs a d n h =
       rising_insert_all front ms (insert key m xs) a.1 d.1 (grow ms d.0 n.1) (rising_insert front m xs a.0 n.0 h)
     where
-      grow : (ys : List X) → All (λ y. key m ≡ key y → ⊥) ys → All (λ y. All (λ x. key y ≡ key x → ⊥) xs) ys → All (λ y. All (λ x. key y ≡ key x → ⊥) (insert key m xs)) ys
+      grow : (ys : List X) → AllByRecursion (λ y. key m ≡ key y → ⊥) ys → AllByRecursion (λ y. AllByRecursion (λ x. key y ≡ key x → ⊥) xs) ys → AllByRecursion (λ y. AllByRecursion (λ x. key y ≡ key x → ⊥) (insert key m xs)) ys
       grow [] e f = tt
       grow (y ∷ ys) e f = (all_insert (λ x. key y ≡ key x → ⊥) m xs (λ k. e.0 (sym k)) f.0, grow ys e.1 f.1)
 
@@ -140,11 +140,11 @@ module _ {X : Type 0} (key : X → Key) where
       (λ _. (all_kept_by p (λ y. key x ≡ key y → ⊥) xs d.0, distinct_kept_by p xs d.1)) (λ _. distinct_kept_by p xs d.1)
 
   -- a front ascends by itself, and comes before all that follows it
-  pub rising_front : (front : List X) (m : X) (xs : List X) → Rising key (front ++ m ∷ xs) → All (λ f. before (key f) (key m) ≡ true) front
+  pub rising_front : (front : List X) (m : X) (xs : List X) → Rising key (front ++ m ∷ xs) → AllByRecursion (λ f. before (key f) (key m) ≡ true) front
   rising_front [] m xs h = tt
   rising_front (f ∷ front) m xs h = (reach front h.0, rising_front front m xs h.1)
     where
-      reach : (ys : List X) → All (λ y. before (key f) (key y) ≡ true) (ys ++ m ∷ xs) → before (key f) (key m) ≡ true
+      reach : (ys : List X) → AllByRecursion (λ y. before (key f) (key y) ≡ true) (ys ++ m ∷ xs) → before (key f) (key m) ≡ true
       reach [] g = g.0
       reach (y ∷ ys) g = reach ys g.1
 
@@ -156,7 +156,7 @@ module _ {X : Type 0} (key : X → Key) where
   rising_start [] xs h = tt
   rising_start (f ∷ front) xs h = (reach front h.0, rising_start front xs h.1)
     where
-      reach : (ys : List X) → All (λ y. before (key f) (key y) ≡ true) (ys ++ xs) → All (λ y. before (key f) (key y) ≡ true) ys
+      reach : (ys : List X) → AllByRecursion (λ y. before (key f) (key y) ≡ true) (ys ++ xs) → AllByRecursion (λ y. before (key f) (key y) ≡ true) ys
       reach [] g = tt
       reach (y ∷ ys) g = (g.0, reach ys g.1)
 

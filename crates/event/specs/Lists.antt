@@ -1,6 +1,6 @@
 -- Lists in the order of their keys, of anything that has a key.
 use Rattle.std.specs.Prelude.{◌≡◌, true, false, cond, List, [], ◌∷◌, Some, None, Option, ◌≢◌}
-use Rattle.std.specs.List.{AllByRecursion as All}
+use Rattle.std.specs.List.{AllByRecursion}
 use Rattle.event.specs.declared.Key.{Key}
 use Rattle.event.specs.Keys.{before}
 
@@ -26,14 +26,14 @@ module _ {X : Type 0} (key : X → Key) where
   -- none comes before an earlier one
   abbrev pub Sorted : List X → Type 0
   Sorted [] = Unit {0}
-  Sorted (x ∷ xs) = All (λ y. before (key y) (key x) ≡ false) xs × Sorted xs
+  Sorted (x ∷ xs) = AllByRecursion (λ y. before (key y) (key x) ≡ false) xs × Sorted xs
 
   -- each comes before every later one: the keys strictly ascend
   abbrev pub Rising : List X → Type 0
   Rising [] = Unit {0}
-  Rising (x ∷ xs) = All (λ y. before (key x) (key y) ≡ true) xs × Rising xs
+  Rising (x ∷ xs) = AllByRecursion (λ y. before (key x) (key y) ≡ true) xs × Rising xs
 
   -- no two have one key
   abbrev pub Distinct : List X → Type 0
   Distinct [] = Unit {0}
-  Distinct (x ∷ xs) = All (λ y. key x ≢ key y) xs × Distinct xs
+  Distinct (x ∷ xs) = AllByRecursion (λ y. key x ≢ key y) xs × Distinct xs

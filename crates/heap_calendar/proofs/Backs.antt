@@ -1,6 +1,6 @@
 -- Putting a list in order in again, one by one.
 use Rattle.std.proofs.Common.{◌≡◌, ℕ, zero, suc, ◌+◌, ◌<◌, Bool, true, false, cond, List, [], ◌∷◌, ◌++◌, map, length, get_or, take, filter, sym, refl, ap, ◌∙◌, ⊎_elim}
-use Rattle.std.specs.List.{AllByRecursion as All}
+use Rattle.std.specs.List.{AllByRecursion}
 use Rattle.std.proofs.lemmas.Bool.{cases_Bool}
 use Rattle.std.proofs.lemmas.List.{take_more}
 use Rattle.std.proofs.ByRecursion.{All-weaker, All-map, all_kept_by}
@@ -24,7 +24,7 @@ module _ (f : Held → Held) (e : (x : Held) → key_of_held (f x) ≡ key_of_he
   map_push (y ∷ l) x = ap (λ t. f y ∷ t) (map_push l x)
 
   -- what is changed goes behind those before it
-  last_of : (l : List Held) (i : ℕ) (d : Held) → i < length l → Sorted key_of_held l → All (λ y. before (key_of_held (f (get_or l i d))) (key_of_held y) ≡ false) (map f (take i l))
+  last_of : (l : List Held) (i : ℕ) (d : Held) → i < length l → Sorted key_of_held l → AllByRecursion (λ y. before (key_of_held (f (get_or l i d))) (key_of_held y) ≡ false) (map f (take i l))
   last_of l i d h s =
       All-map (λ y. before (key_of_held (f (get_or l i d))) (key_of_held y) ≡ false) f (take i l)
       (All-weaker (λ y. before (key_of_held (get_or l i d)) (key_of_held y) ≡ false) (λ y. before (key_of_held (f (get_or l i d))) (key_of_held (f y)) ≡ false)

@@ -1,6 +1,6 @@
 -- A heap of slots under a push and a pop.
 use Rattle.std.proofs.Common.{◌≡◌, ℕ, ◌+◌, ◌-◌, ◌/◌, ◌<◌, Bool, true, false, List, [], ◌∷◌, length, get_or, Some, None, Option, sym, refl, ap, ◌∙◌, subst, arith, MatchOption}
-use Rattle.std.specs.List.{AllByRecursion as All}
+use Rattle.std.specs.List.{AllByRecursion}
 use Rattle.std.specs.List.Sorted.{IsPermutation}
 use Rattle.std.specs.BinaryHeap.{IsHeap, IsUpperBound, PopsGreatest, KeepsHeap}
 use Rattle.std.specs.Option.{option_map}
@@ -37,7 +37,7 @@ not_less false false f h = refl
 -- what a pop gives is the first
 pub popped : (xs : List Slot) (x : Slot) (ys : List Slot) → IsPermutation xs (x ∷ ys) → IsUpperBound turned x xs → ranked earlier xs ≡ x ∷ ranked earlier ys
 popped xs x ys s g =
-    let all : All (λ y. earlier y x ≡ false) (x ∷ ys) =
+    let all : AllByRecursion (λ y. earlier y x ≡ false) (x ∷ ys) =
     All-weaker (λ y. is_lt (turned x y) ≡ false) (λ y. earlier y x ≡ false) (λ y h. not_less (earlier x y) (earlier y x) (strictly.one_way x y) h) (x ∷ ys)
     (all_shuffled (λ y. is_lt (turned x y) ≡ false) xs (x ∷ ys) s g) in
     sym (ranked_shuffled earlier strictly xs (x ∷ ys) s) ∙ ins_front earlier strictly x (ranked earlier ys) (all_ranked earlier strictly (λ y. earlier y x ≡ false) ys all.1)

@@ -1,6 +1,6 @@
 -- What a model means.
 use Rattle.std.specs.Prelude.{◌≡◌, ℕ, ◌<◌, ◌≤◌, List, [], ◌∷◌, length}
-use Rattle.std.specs.List.{AllByRecursion as All}
+use Rattle.std.specs.List.{AllByRecursion}
 use Rattle.model.specs.declared.Arrival.{Arrival}
 use Rattle.model.specs.declared.Sent.{Sent}
 use Rattle.model.specs.declared.Sends.{Sends}
@@ -32,7 +32,7 @@ pub record Within (n : ℕ) (s : Sent) : Type 0 where
   pub most : s.delay ≤ 86400
 
 abbrev pub Lawful : ℕ → Sends → Type 0
-Lawful n s = All (Within n) (listed s)
+Lawful n s = AllByRecursion (Within n) (listed s)
 
 -- what every model shows by law, of its meaning
 pub record Law (M : Meaning) : Type 0 where

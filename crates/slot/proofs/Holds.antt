@@ -1,6 +1,6 @@
 -- What an array of slots holds, in order, and what a put, a change and a choice make of it.
 use Rattle.std.proofs.Common.{◌≡◌, ℕ, zero, suc, ◌<◌, Bool, true, false, cond, ◌⊎◌, List, [], ◌∷◌, ◌++◌, length, get_or, take, filter, sym, refl, ap, ◌∙◌, inl, inr, arith}
-use Rattle.std.specs.List.{AllByRecursion as All}
+use Rattle.std.specs.List.{AllByRecursion}
 use Rattle.std.specs.List.Sorted.{IsPermutation}
 use Rattle.std.specs.Option.{option_map}
 use Rattle.std.proofs.lemmas.Bool.{cases_Bool, cond_both}
@@ -21,7 +21,7 @@ use Rattle.slot.proofs.Picks.{Climbs}
 use Rattle.slot.proofs.Nths.{climbs_from, steady_from}
 
 -- a put goes behind those with its key, being the youngest
-bares_ins : (x : Slot) (l : List Slot) → All (λ y. y.age < x.age) l → bares (ins earlier x l) ≡ insert key_of_held (bare x) (bares l)
+bares_ins : (x : Slot) (l : List Slot) → AllByRecursion (λ y. y.age < x.age) l → bares (ins earlier x l) ≡ insert key_of_held (bare x) (bares l)
 bares_ins x [] h = refl
 bares_ins x (y ∷ l) h = go (cases_Bool (earlier x y)) (bares_ins x l h.1)
   where
@@ -42,11 +42,11 @@ pushed xs x ys s h =
 by_age : (x y : Slot) → y.age < x.age → earlier x y ≡ true → ahead x y ≡ true
 by_age x y h e = before_ahead x y (sym (younger x y h) ∙ e)
 
-climbs_all : (x y : Slot) (l : List Slot) → earlier x y ≡ true → All (λ z. z.age < x.age) l → All (λ z. ahead y z ≡ true) l → All (λ z. ahead x z ≡ true) l
+climbs_all : (x y : Slot) (l : List Slot) → earlier x y ≡ true → AllByRecursion (λ z. z.age < x.age) l → AllByRecursion (λ z. ahead y z ≡ true) l → AllByRecursion (λ z. ahead x z ≡ true) l
 climbs_all x y [] e h k = tt
 climbs_all x y (z ∷ l) e h k = (by_age x z h.0 (strictly.chain x y z e (ahead_earlier y z k.0)), climbs_all x y l e h.1 k.1)
 
-climbs_ins : (x : Slot) (l : List Slot) → All (λ y. y.age < x.age) l → Climbs ahead l → Climbs ahead (ins earlier x l)
+climbs_ins : (x : Slot) (l : List Slot) → AllByRecursion (λ y. y.age < x.age) l → Climbs ahead l → Climbs ahead (ins earlier x l)
 climbs_ins x [] h k = (tt, tt)
 climbs_ins x (y ∷ l) h k =
     cond_both (earlier x y) (x ∷ y ∷ l) (y ∷ ins earlier x l) (Climbs ahead)
@@ -69,7 +69,7 @@ length_bares (x ∷ l) = ap suc (length_bares l)
 pub length_in_order : (l : List Slot) → length (in_order l) ≡ length l
 length_in_order l = length_bares (ranked earlier l) ∙ length_ranked earlier strictly l
 
-all_bares : (P : Held → Type 0) (l : List Slot) → All (λ x. P (bare x)) l → All P (bares l)
+all_bares : (P : Held → Type 0) (l : List Slot) → AllByRecursion (λ x. P (bare x)) l → AllByRecursion P (bares l)
 all_bares P [] h = tt
 all_bares P (x ∷ l) h = (h.0, all_bares P l h.1)
 
@@ -107,16 +107,16 @@ looks xs x l i e =
     ∙ sym (ap (λ r. at (leading (bares r)) i) e)
 
 -- one after another, in order
-pub insert_last : (h : Held) (l : List Held) → All (λ y. before (key_of_held h) (key_of_held y) ≡ false) l → insert key_of_held h l ≡ l ++ h ∷ []
+pub insert_last : (h : Held) (l : List Held) → AllByRecursion (λ y. before (key_of_held h) (key_of_held y) ≡ false) l → insert key_of_held h l ≡ l ++ h ∷ []
 insert_last h [] k = refl
 insert_last h (y ∷ l) k = ap (λ b. cond b (h ∷ y ∷ l) (y ∷ insert key_of_held h l)) k.0 ∙ ap (λ t. y ∷ t) (insert_last h l k.1)
 
-sorted_first : (x : Held) (l : List Held) (i : ℕ) (d : Held) → i < length l → All (λ y. before (key_of_held y) (key_of_held x) ≡ false) l → before (key_of_held (get_or l i d)) (key_of_held x) ≡ false
+sorted_first : (x : Held) (l : List Held) (i : ℕ) (d : Held) → i < length l → AllByRecursion (λ y. before (key_of_held y) (key_of_held x) ≡ false) l → before (key_of_held (get_or l i d)) (key_of_held x) ≡ false
 sorted_first x [] i d h k = absurd (let z : ⊥ = omega arith in z)
 sorted_first x (y ∷ l) zero d h k = k.0
 sorted_first x (y ∷ l) (suc i) d h k = sorted_first x l i d (let m : i < length l = omega arith in m) k.1
 
-pub sorted_front : (l : List Held) (i : ℕ) (d : Held) → i < length l → Sorted key_of_held l → All (λ y. before (key_of_held (get_or l i d)) (key_of_held y) ≡ false) (take i l)
+pub sorted_front : (l : List Held) (i : ℕ) (d : Held) → i < length l → Sorted key_of_held l → AllByRecursion (λ y. before (key_of_held (get_or l i d)) (key_of_held y) ≡ false) (take i l)
 sorted_front [] i d h s = absurd (let z : ⊥ = omega arith in z)
 sorted_front (x ∷ l) zero d h s = tt
 sorted_front (x ∷ l) (suc i) d h s = (sorted_first x l i d (let m : i < length l = omega arith in m) s.0, sorted_front l i d (let m : i < length l = omega arith in m) s.1)

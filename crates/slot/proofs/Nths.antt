@@ -1,6 +1,6 @@
 -- The steps of the loops that choose among slots.
 use Rattle.std.proofs.Common.{◌≡◌, ℕ, ◌+◌, ◌<◌, ◌≤◌, Bool, true, false, ◌&&◌, List, [], ◌∷◌, length, get_or, take, is_some, Some, None, filter, Option, sym, refl, ap, ◌∙◌, add-one}
-use Rattle.std.specs.List.{AllByRecursion as All}
+use Rattle.std.specs.List.{AllByRecursion}
 use Rattle.std.proofs.lemmas.List.{take_more}
 use Rattle.std.proofs.ByRecursion.{All-weaker}
 use Rattle.std.proofs.lemmas.Bool.{both_ways, and_parts, and_from}
@@ -24,11 +24,11 @@ pub step_no : (p : Slot → Bool) (xs : List Slot) (i : ℕ) (d : Slot) (b b' : 
 step_no p xs i d b b' h inv e f =
     f ∙ inv ∙ sym (first_no earlier strictly p (take i xs) (get_or xs i d) e) ∙ sym (ap (λ l. head (filter p (ranked earlier l))) (take_more xs i d h))
 
-pub all_from_leads : (x : Slot) (l : List Slot) → leads_all x l ≡ true → All (λ y. ahead x y ≡ true) l
+pub all_from_leads : (x : Slot) (l : List Slot) → leads_all x l ≡ true → AllByRecursion (λ y. ahead x y ≡ true) l
 all_from_leads x [] h = tt
 all_from_leads x (y ∷ l) h = let p = and_parts (ahead x y) (leads_all x l) h in (p.0, all_from_leads x l p.1)
 
-pub all_leads : (x : Slot) (l : List Slot) → All (λ y. ahead x y ≡ true) l → leads_all x l ≡ true
+pub all_leads : (x : Slot) (l : List Slot) → AllByRecursion (λ y. ahead x y ≡ true) l → leads_all x l ≡ true
 all_leads x [] h = refl
 all_leads x (y ∷ l) h = and_from (ahead x y) (leads_all x l) h.0 (all_leads x l h.1)
 

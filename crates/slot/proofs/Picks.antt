@@ -1,6 +1,6 @@
 -- Choosing from a ranked list: the first that passes, and the one after it.
 use Rattle.std.proofs.Common.{◌≡◌, ℕ, zero, suc, ◌≤◌, Bool, true, false, cond, ◌&&◌, ◌⊎◌, List, [], ◌∷◌, ◌++◌, Some, None, filter, sym, refl, ap, ◌∙◌, subst, inl, inr, ⊎_elim, arith}
-use Rattle.std.specs.List.{AllByRecursion as All}
+use Rattle.std.specs.List.{AllByRecursion}
 use Rattle.std.proofs.ByRecursion.{All-weaker, all_kept_by}
 use Rattle.std.proofs.lemmas.Bool.{cases_Bool, both_ways, cond_both}
 use Rattle.event.specs.Lists.{first as head}
@@ -19,11 +19,11 @@ pub kept_same : {X : Type 0} (p q : X → Bool) (l : List X) → ((x : X) → p 
 kept_same p q [] h = refl
 kept_same p q (x ∷ l) h = ap (λ t. cond (p x) (x ∷ t) t) (kept_same p q l h) ∙ ap (λ b. cond b (x ∷ filter q l) (filter q l)) (h x)
 
-pub kept_every : {X : Type 0} (p : X → Bool) (l : List X) → All (λ x. p x ≡ true) l → filter p l ≡ l
+pub kept_every : {X : Type 0} (p : X → Bool) (l : List X) → AllByRecursion (λ x. p x ≡ true) l → filter p l ≡ l
 kept_every p [] h = refl
 kept_every p (x ∷ l) h = ap (λ b. cond b (x ∷ filter p l) (filter p l)) h.0 ∙ ap (λ t. x ∷ t) (kept_every p l h.1)
 
-pub all_at : {X : Type 0} (P : X → Type 0) (l : List X) (k : ℕ) (x : X) → All P l → at l k ≡ Some x → P x
+pub all_at : {X : Type 0} (P : X → Type 0) (l : List X) (k : ℕ) (x : X) → AllByRecursion P l → at l k ≡ Some x → P x
 all_at P [] k x h e = let z : ◌≡◌ {A = ℕ} 0 1 = cc in absurd (let y : ⊥ = omega arith in y)
 all_at P (y ∷ l) zero x h e = let z : y ≡ x = cc in subst P z h.0
 all_at P (y ∷ l) (suc k) x h e = all_at P l k x h.1 e
@@ -42,7 +42,7 @@ module _ {X : Type 0} (lt : X → X → Bool) where
   -- each comes before all that follow
   abbrev pub Climbs : List X → Type 0
   Climbs [] = Unit {0}
-  Climbs (x ∷ xs) = All (λ y. lt x y ≡ true) xs × Climbs xs
+  Climbs (x ∷ xs) = AllByRecursion (λ y. lt x y ≡ true) xs × Climbs xs
 
   pub climbs_kept : (p : X → Bool) (l : List X) → Climbs l → Climbs (filter p l)
   climbs_kept p [] h = tt
@@ -71,7 +71,7 @@ module _ {X : Type 0} (lt : X → X → Bool) (o : Strict lt) where
       (λ _. ap (λ b. cond b (x ∷ filter p (y ∷ l)) (filter p (y ∷ l))) e)
       (λ _. ap (λ t. cond (p y) (y ∷ t) t) (kept_ins_no p x l e))
 
-  pub ins_first : (x : X) (l : List X) → All (λ y. lt x y ≡ true) l → ins lt x l ≡ x ∷ l
+  pub ins_first : (x : X) (l : List X) → AllByRecursion (λ y. lt x y ≡ true) l → ins lt x l ≡ x ∷ l
   ins_first x [] h = refl
   ins_first x (y ∷ l) h = ap (λ b. cond b (x ∷ y ∷ l) (y ∷ ins lt x l)) h.0
 
@@ -81,7 +81,7 @@ module _ {X : Type 0} (lt : X → X → Bool) (o : Strict lt) where
     where
       go : (lt x y ≡ true) ⊎ (lt x y ≡ false) → (p y ≡ true) ⊎ (p y ≡ false) → filter p (ins lt x l) ≡ ins lt x (filter p l) → filter p (ins lt x (y ∷ l)) ≡ ins lt x (filter p (y ∷ l))
       go (inl a) w ih =
-          let all : All (λ z. lt x z ≡ true) (y ∷ l) = (a, All-weaker (λ z. lt z y ≡ false) (λ z. lt x z ≡ true) (λ z k. through x y z a k) l r.0) in
+          let all : AllByRecursion (λ z. lt x z ≡ true) (y ∷ l) = (a, All-weaker (λ z. lt z y ≡ false) (λ z. lt x z ≡ true) (λ z k. through x y z a k) l r.0) in
           ap (λ b. filter p (cond b (x ∷ y ∷ l) (y ∷ ins lt x l))) a ∙ ap (λ b. cond b (x ∷ filter p (y ∷ l)) (filter p (y ∷ l))) e
           ∙ sym (ins_first x (filter p (y ∷ l)) (all_kept_by p (λ z. lt x z ≡ true) (y ∷ l) all))
       go (inr a) (inl f) ih =
@@ -110,7 +110,7 @@ module _ {X : Type 0} (lt : X → X → Bool) (o : Strict lt) where
   next_at (y ∷ l) zero x h e =
       let z : y ≡ x = cc in
       ap (λ b. head (cond b (y ∷ filter (lt x) l) (filter (lt x) l))) (ap (λ u. lt u y) (sym z) ∙ never_self y)
-      ∙ ap head (kept_every (lt x) l (subst (λ u. All (λ w. lt u w ≡ true) l) z h.0)) ∙ sym (at_zero l)
+      ∙ ap head (kept_every (lt x) l (subst (λ u. AllByRecursion (λ w. lt u w ≡ true) l) z h.0)) ∙ sym (at_zero l)
   next_at (y ∷ l) (suc k) x h e =
       let z : lt y x ≡ true = all_at (λ w. lt y w ≡ true) l k x h.0 e in
       ap (λ b. head (cond b (y ∷ filter (lt x) l) (filter (lt x) l))) (o.one_way y x z) ∙ next_at l k x h.1 e

@@ -1,6 +1,6 @@
 -- When a calendar of 512 accepts, and the second of those with the smallest key.
 use Rattle.std.proofs.Common.{◌≡◌, ℕ, zero, suc, ◌<◌, ◌≤◌, Bool, true, false, cond, ltb, ◌⊎◌, List, [], ◌∷◌, length, get_or, Some, None, filter, Option, sym, refl, ap, ◌∙◌, subst, inl, inr, ⊎_elim, arith}
-use Rattle.std.specs.List.{AllByRecursion as All}
+use Rattle.std.specs.List.{AllByRecursion}
 use Rattle.std.specs.Option.{option_map}
 use Rattle.std.proofs.lemmas.Bool.{cases_Bool, both_ways, lt-ltb, le-ltb, and_from, and_left, and_right}
 use Rattle.calendar.specs.declared.Held.{Held}
@@ -28,11 +28,11 @@ pub accepts_spent : (l : List Held) (puts : ℕ) → 1000000 ≤ puts → accept
 accepts_spent l puts h = and_right (ltb (length l) 512) (ltb puts 1000000) (le-ltb puts 1000000 h)
 
 -- what comes before no other is the first
-pub first_least : {X : Type 0} (lt : X → X → Bool) (o : Strict lt) (t : List X) (m : X) (j : ℕ) (d : X) → j < length t → get_or t j d ≡ m → All (λ y. lt y m ≡ false) t → head (ranked lt t) ≡ Some m
+pub first_least : {X : Type 0} (lt : X → X → Bool) (o : Strict lt) (t : List X) (m : X) (j : ℕ) (d : X) → j < length t → get_or t j d ≡ m → AllByRecursion (λ y. lt y m ≡ false) t → head (ranked lt t) ≡ Some m
 first_least lt o [] m j d h e a = absurd (let z : ⊥ = omega arith in z)
 first_least {X} lt o (y ∷ t) m zero d h e a = head_ins lt o y (ranked lt t) ∙ go (ranked lt t) (all_ranked lt o (λ z. lt z m ≡ false) t a.1)
   where
-    go : (r : List X) → All (λ z. lt z m ≡ false) r → sooner lt (head r) y ≡ Some m
+    go : (r : List X) → AllByRecursion (λ z. lt z m ≡ false) r → sooner lt (head r) y ≡ Some m
     go [] k = ap Some e
     go (b ∷ r) k = ⊎_elim
         (λ (f : lt y b ≡ true). ap (λ w. cond w (Some y) (Some b)) f ∙ ap Some e)
@@ -48,7 +48,7 @@ after_other : (x y z : Key) → before x y ≡ true → before z y ≡ false →
 after_other x y z h k = same_not x z (λ e. both_ways (before z y) k (subst (λ w. before w y ≡ true) e h))
 
 -- after one with another key none has the smallest
-none_same : (x y : Key) (l : List Held) → before x y ≡ true → All (λ z. before (key_of_held z) y ≡ false) l → filter (λ z. same x (key_of_held z)) l ≡ []
+none_same : (x y : Key) (l : List Held) → before x y ≡ true → AllByRecursion (λ z. before (key_of_held z) y ≡ false) l → filter (λ z. same x (key_of_held z)) l ≡ []
 none_same x y [] h a = refl
 none_same x y (z ∷ l) h a = ap (λ b. cond b (z ∷ filter (λ z. same x (key_of_held z)) l) (filter (λ z. same x (key_of_held z)) l)) (after_other x y (key_of_held z) h a.0) ∙ none_same x y l h a.1
 

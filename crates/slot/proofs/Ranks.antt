@@ -1,6 +1,6 @@
 -- Insertion in a strict order: the same list however its elements come.
 use Rattle.std.proofs.Common.{◌≡◌, ℕ, zero, suc, ◌<◌, Bool, true, false, ◌⊎◌, List, [], ◌∷◌, length, get_or, set, sym, refl, ap, ◌∙◌, inl, inr, ⊎_elim, arith}
-use Rattle.std.specs.List.{AllByRecursion as All, swap}
+use Rattle.std.specs.List.{AllByRecursion, swap}
 use Rattle.std.specs.List.Sorted.{IsPermutation}
 use Rattle.std.proofs.ByRecursion.{All-weaker}
 use Rattle.std.proofs.lemmas.List.Sorted.{IsPermutation-keeps}
@@ -55,16 +55,16 @@ module _ {X : Type 0} (lt : X → X → Bool) (o : Strict lt) where
   ranked_shuffled xs ys h = IsPermutation-keeps xs (λ l. ranked lt l ≡ ranked lt xs) refl (λ l i j a b e. ranked_exchange l i j a b ∙ e) ys h
 
   -- what comes before no other goes first
-  pub ins_front : (x : X) (l : List X) → All (λ y. lt y x ≡ false) l → ins lt x l ≡ x ∷ l
+  pub ins_front : (x : X) (l : List X) → AllByRecursion (λ y. lt y x ≡ false) l → ins lt x l ≡ x ∷ l
   ins_front x [] h = refl
   ins_front x (y ∷ l) h =
       ⊎_elim (λ (a : lt x y ≡ true). simp a) (λ (a : lt x y ≡ false). let e = o.apart x y a h.0 in simp a (ap (λ t. y ∷ t) (ins_front x l h.1) ∙ ap (λ u. u ∷ x ∷ l) (sym e) ∙ ap (λ u. x ∷ u ∷ l) e)) (cases_Bool (lt x y))
 
-  pub all_ins : (P : X → Type 0) (x : X) (l : List X) → P x → All P l → All P (ins lt x l)
+  pub all_ins : (P : X → Type 0) (x : X) (l : List X) → P x → AllByRecursion P l → AllByRecursion P (ins lt x l)
   all_ins P x [] p h = (p, tt)
-  all_ins P x (y ∷ l) p h = cond_both (lt x y) (x ∷ y ∷ l) (y ∷ ins lt x l) (All P) (λ _. (p, h)) (λ _. (h.0, all_ins P x l p h.1))
+  all_ins P x (y ∷ l) p h = cond_both (lt x y) (x ∷ y ∷ l) (y ∷ ins lt x l) (AllByRecursion P) (λ _. (p, h)) (λ _. (h.0, all_ins P x l p h.1))
 
-  pub all_ranked : (P : X → Type 0) (l : List X) → All P l → All P (ranked lt l)
+  pub all_ranked : (P : X → Type 0) (l : List X) → AllByRecursion P l → AllByRecursion P (ranked lt l)
   all_ranked P [] h = tt
   all_ranked P (x ∷ l) h = all_ins P x (ranked lt l) h.0 (all_ranked P l h.1)
 

@@ -1,6 +1,6 @@
 -- Lists in a strict order.
 use Rattle.std.specs.Prelude.{◌≡◌, Bool, true, false, cond, List, [], ◌∷◌}
-use Rattle.std.specs.List.{AllByRecursion as All}
+use Rattle.std.specs.List.{AllByRecursion}
 
 module _ {X : Type 0} (lt : X → X → Bool) where
   -- x goes behind those that it does not come before
@@ -22,4 +22,4 @@ pub record Strict {X : Type 0} (lt : X → X → Bool) : Type 0 where
 -- no later one comes before an earlier one
 abbrev pub Rising : {X : Type 0} → (X → X → Bool) → List X → Type 0
 Rising lt [] = Unit {0}
-Rising lt (x ∷ xs) = All (λ y. lt y x ≡ false) xs × Rising lt xs
+Rising lt (x ∷ xs) = AllByRecursion (λ y. lt y x ≡ false) xs × Rising lt xs
