@@ -43,9 +43,9 @@ mod tests {
         assert_eq!(rt; (plan.farms, plan.tankers, plan.end), (3, 1, 3000));
         assert_eq!(rt;
             plan.starts.as_slice(),
-            &[milk(0, 2, 1000), milk(5, 1, 500), milk(5, 3, 500)]
+            [milk(0, 2, 1000), milk(5, 1, 500), milk(5, 3, 500)].as_slice()
         );
-        assert_eq!(rt; plan.lines.as_slice(), &[5, 6, 7]);
+        assert_eq!(rt; plan.lines.as_slice(), [5, 6, 7].as_slice());
         Ok(())
     }
 
