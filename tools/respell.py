@@ -15,7 +15,6 @@ import sys
 SIGNATURE = re.compile(r"^(\s*)((?:abbrev |unfoldable |pub |data |record )*)([^\s(){}:=,;|\[\]]+)((?:\s+[({][^:]*:[^)}]*[)}])*)\s+:(\s|$)(.*)")
 TOKEN = re.compile(r"[^\s(){}\[\].,;|«»`]+")
 OWN = re.compile(r"Rattle\.(\w+)\.")
-# names that Rattle makes, in Answers.antt and Invariants.antt
 # where the snake case is the name of a function of src/ beside it, two crates have one name, or a part of the name is a word of the library that has gone
 TAKEN = {
     "allFree": "all_free_word",
@@ -44,6 +43,7 @@ TAKEN = {
     "executions-within": "executions_within_lem",
 }
 IN_REPORT = {"atDairy": "dairy_deed", "atFarm": "farm_deed", "atTanker": "tanker_deed"}
+# names that Rattle makes, in Answers.antt and Invariants.antt
 MADE = re.compile(r"(-requires(-|$)|^(loop|returns|invariant|decreases|overflow|nonzero|bounds|in|if)-.*|-preserved$|-init$)")
 
 

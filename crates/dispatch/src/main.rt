@@ -103,22 +103,27 @@ fn print_day(rt: &HostRuntime, plan: &Plan) -> anyhow::Result<()> {
     Ok(())
 }
 
-fn run(rt: &HostRuntime) -> anyhow::Result<()> {
+// Tells the status: a file that cannot be read ends with its own message.
+fn run(rt: &HostRuntime) -> anyhow::Result<ExitCode> {
     let mut args = env::args(rt)?;
     let Some(path) = args.nth(1) else {
         return Err(anyhow!("usage: dispatch FILE"));
     };
     let text = match fs::read(rt, path.as_str()) {
         Ok(text) => text,
-        Err(e) => return Err(anyhow!(format!(in rt.alloc(); "{path}: {e}")?)),
+        Err(e) => {
+            eprintln!(rt; "dispatch: {path}: {e}")?;
+            return Ok(ExitCode::FAILURE);
+        }
     };
     let plan = dayfile::read(rt.alloc(), text.as_slice())?;
-    print_day(rt, &plan)
+    print_day(rt, &plan)?;
+    Ok(ExitCode::SUCCESS)
 }
 
 fn main(rt: HostRuntime) -> ExitCode {
     match run(&rt) {
-        Ok(()) => ExitCode::SUCCESS,
+        Ok(status) => status,
         Err(error) => {
             let _ = eprintln!(rt; "dispatch: {error}");
             ExitCode::FAILURE
