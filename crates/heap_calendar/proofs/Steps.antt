@@ -4,10 +4,10 @@ use Rattle.std.specs.List.{AllByRecursion}
 use Rattle.std.specs.List.Sorted.{IsPermutation}
 use Rattle.std.specs.BinaryHeap.{IsHeap, IsUpperBound, PopsGreatest, KeepsHeap}
 use Rattle.std.specs.Option.{option_map}
-use Rattle.std.specs.Prelude.{IfSome, IfNone, OnSome}
+use Rattle.std.specs.Prelude.{IfSome, IfNone}
 use Rattle.std.specs.Ordering.{is_lt}
 use Rattle.std.proofs.lemmas.Bool.{both_ways}
-use Rattle.std.proofs.lemmas.List.{get_or_default}
+use Rattle.std.proofs.lemmas.List.{get_or_default, nil_from_length}
 use Rattle.std.proofs.ByRecursion.{all_shuffled, All-weaker, every_from_all, all_from_every}
 use Rattle.slot.specs.Rank.{ranked}
 use Rattle.slot.proofs.Ranks.{ranked_shuffled, ins_front, all_ranked}
@@ -58,11 +58,6 @@ pub pop_parts : (r : Option Slot) (xs ys : List Slot) (m n : ℕ) → IfNone r (
 pop_parts None xs ys m n u p h = u.0
 pop_parts (Some x) xs ys m n u p h = (p, h)
 
--- its lengths
-pub pop_lengths : (r : Option Slot) (xs ys : List Slot) (m n : ℕ) → OnSome r (n + 1 ≡ m) → IfNone r (m ≡ 0) → IfNone r ((ys ≡ xs) × (n ≡ m)) → MatchOption r ((m ≡ 0) × (n ≡ 0)) (λ _. n + 1 ≡ m)
-pop_lengths None xs ys m n l z u = (z, u.1 ∙ z)
-pop_lengths (Some x) xs ys m n l z u = l
-
 pub sound_pop : (r : Option Slot) (xs ys : List Slot) (n : ℕ) → PopSays r xs ys → Sound n xs → Sound n ys
 sound_pop None xs ys n h s = subst (Sound n) (sym h) s
 sound_pop (Some x) xs ys n h s = (
@@ -81,15 +76,11 @@ sound_none n xs e = subst (Sound n) (sym e) ((λ k d a b. absurd (let z : ⊥ = 
 pub sound_moved : (n m : ℕ) (xs ys : List Slot) → m ≡ n → ys ≡ xs → Sound n xs → Sound m ys
 sound_moved n m xs ys e f s = subst (λ k. Sound k ys) (sym e) (subst (Sound n) (sym f) s)
 
-no_slots : (xs : List Slot) → length xs ≡ 0 → xs ≡ []
-no_slots [] h = refl
-no_slots (x ∷ xs) h = absurd (let z : ⊥ = omega arith in z)
-
 -- a pop tells the head, and leaves the rest
-pub pop_says : (r : Option Slot) (xs ys : List Slot) (m n : ℕ) → m ≡ length xs → PopSays r xs ys → MatchOption r ((m ≡ 0) × (n ≡ 0)) (λ _. n + 1 ≡ m) → Heapy xs → (option_map bare r ≡ head (in_order xs)) × (in_order ys ≡ rest (in_order xs))
-pop_says None xs ys m n e h l k =
-    let z : xs ≡ [] = no_slots xs (sym e ∙ l.0) in
+pub pop_says : (r : Option Slot) (xs ys : List Slot) (m : ℕ) → m ≡ length xs → PopSays r xs ys → IfNone r (m ≡ 0) → Heapy xs → (option_map bare r ≡ head (in_order xs)) × (in_order ys ≡ rest (in_order xs))
+pop_says None xs ys m e h l k =
+    let z : xs ≡ [] = nil_from_length xs (sym e ∙ l) in
     (sym (ap (λ t. head (in_order t)) z), ap in_order (h ∙ z) ∙ sym (ap (λ t. rest (in_order t)) z))
-pop_says (Some x) xs ys m n e h l k =
+pop_says (Some x) xs ys m e h l k =
     let p = (popped_heap xs ys x h k).0 in
     (sym (ap (λ t. head (bares t)) p), sym (ap (λ t. rest (bares t)) p))

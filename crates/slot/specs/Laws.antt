@@ -1,5 +1,8 @@
 -- The order of slots is strict and total, and how it goes with the order of keys.
 use Rattle.std.proofs.Common.{◌≡◌, ℕ, ◌<◌, Bool, true, false, cond, ◌&&◌, ◌||◌, eqb, ltb, ◌⊎◌, sym, refl, ap, ◌∙◌, subst, inl, inr, ⊎_elim, arith, Ordering, Less, Equal, Greater}
+use Rattle.std.specs.Prelude.{◌==◌}
+use Rattle.std.specs.Cmp.{IsTotalOrder, both_ways as one_test, tied_itself, Equal-is}
+use Rattle.std.specs.Ordering.{ordering_reverse, is_lt, is_eq, eq_by_cmp}
 use Rattle.std.proofs.lemmas.Bool.{cases_Bool, both_ways}
 use Rattle.std.proofs.lemmas.Bool.Decides.{nat_tests}
 use Rattle.event.specs.declared.Key.{Key}
@@ -8,9 +11,6 @@ use Rattle.event.proofs.Orders.{never, chain, apart, not_back, before_ne, same_f
 use Rattle.slot.specs.declared.Slot.{Slot}
 use Rattle.slot.specs.Rank.{Strict}
 use Rattle.slot.specs.Slots.{key_of_slot, by_key, last, earlier, ahead, turned}
-use Rattle.std.specs.Prelude.{◌==◌}
-use Rattle.std.specs.Cmp.{IsTotalOrder, both_ways as one_test, tied_itself, Equal-is}
-use Rattle.std.specs.Ordering.{ordering_reverse, is_lt, is_eq, eq_by_cmp}
 
 -- keys in order decide, equal keys leave it to what follows
 pub by_first : (k l : Key) (r : Bool) → before k l ≡ true → by_key k l r ≡ true
@@ -85,6 +85,16 @@ then_chain a b c p q r f x y =
 then_apart : (a b : ℕ) (p q : Bool) → then a b p ≡ false → then b a q ≡ false → (a ≡ b) × (p ≡ false) × (q ≡ false)
 then_apart a b p q x y = (grind (arith, nat_tests), grind (arith, nat_tests), grind (arith, nat_tests))
 
+-- slots that agree in key, kind, data, group and age are one
+one_slot : (x y : Slot) → key_of_slot x ≡ key_of_slot y → x.held.message.kind ≡ y.held.message.kind → x.held.message.«data» ≡ y.held.message.«data» → x.held.group.mask ≡ y.held.group.mask → x.age ≡ y.age → x ≡ y
+one_slot x y k n d w a = λ i. record {
+  held = record {
+    message = record { time = (k i).time; receiver = (k i).receiver; sender = (k i).sender; number = (k i).number; kind = n i; «data» = d i };
+    group = record { mask = w i };
+  };
+  age = a i;
+}
+
 pub strictly : Strict earlier
 unfolding earlier
 strictly = record {
@@ -97,13 +107,7 @@ strictly = record {
       let n = then_apart x.held.message.kind y.held.message.kind _ _ g.1 g.2 in
       let d = then_apart x.held.message.«data» y.held.message.«data» _ _ n.1 n.2 in
       let w : x.held.group.mask ≡ y.held.group.mask = let p = d.1 in let q = d.2 in grind (arith, nat_tests) in
-      λ i. record {
-        held = record {
-          message = record { time = (k.0 i).time; receiver = (k.0 i).receiver; sender = (k.0 i).sender; number = (k.0 i).number; kind = n.0 i; «data» = d.0 i };
-          group = record { mask = w i };
-        };
-        age = g.0 i;
-      };
+      one_slot x y k.0 n.0 d.0 w g.0;
 }
 
 -- what `cmp` answers, by the two tests
@@ -153,17 +157,8 @@ equal_slots x y e =
     let r : x.held.message.receiver ≡ y.held.message.receiver = grind (arith, nat_tests) in
     let s : x.held.message.sender ≡ y.held.message.sender = grind (arith, nat_tests) in
     let n : x.held.message.number ≡ y.held.message.number = grind (arith, nat_tests) in
-    let k : x.held.message.kind ≡ y.held.message.kind = grind (arith, nat_tests) in
-    let d : x.held.message.«data» ≡ y.held.message.«data» = grind (arith, nat_tests) in
-    let g : x.held.group.mask ≡ y.held.group.mask = grind (arith, nat_tests) in
-    let a : x.age ≡ y.age = grind (arith, nat_tests) in
-    λ i. record {
-      held = record {
-        message = record { time = t i; receiver = r i; sender = s i; number = n i; kind = k i; «data» = d i };
-        group = record { mask = g i };
-      };
-      age = a i;
-    }
+    one_slot x y (λ i. record { time = t i; receiver = r i; sender = s i; number = n i })
+    (grind (arith, nat_tests)) (grind (arith, nat_tests)) (grind (arith, nat_tests)) (grind (arith, nat_tests))
 
 -- `==` holds exactly of what the order does not tell apart
 pub turned_ties : (x y : Slot) → equal_fields x y ≡ eq_by_cmp turned x y
