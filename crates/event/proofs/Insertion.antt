@@ -1,6 +1,6 @@
 -- The laws of insertion by key, of anything that has a key.
-use Rattle.std.proofs.Common.{◌≡◌, ℕ, zero, suc, ◌+◌, ◌<◌, ◌≤◌, Bool, true, false, cond, ◌⊎◌, List, [], ◌∷◌, ◌++◌, map, length, get_or, filter, sym, refl, ap, inl, inr, ⊎_elim, arith}
-use Rattle.std.specs.List.{insert as inserted, AllByRecursion}
+use Rattle.std.proofs.Common.{ℕ, zero, suc, ◌<◌, ◌≤◌, slice_index_or, ◌≡◌, suc, ◌+◌, Bool, true, false, cond, ◌⊎◌, List, [], ◌∷◌, ◌++◌, map, length, filter, sym, refl, ap, inl, inr, ⊎_elim, arith}
+use Rattle.std.specs.List.{insert as inserted, position_or_len, AllByRecursion}
 use Rattle.std.specs.List.Sorted.{IsPermutation}
 use Rattle.std.proofs.ByRecursion.{All-weaker, all_kept_by}
 use Rattle.std.proofs.lemmas.List.Sorted.{IsPermutation-refl, IsPermutation-cons, IsPermutation-trans, IsPermutation-swap}
@@ -85,8 +85,8 @@ module _ {X : Type 0} (key : X → Key) where
         ⊎_elim (λ (e : p m ≡ true). simp e (keep_inserted m xs s e)) (λ (e : p m ≡ false). simp e (drop_inserted m xs e)) (cases_Bool (p m))
 
   -- m goes in at i, if it comes before the one there and before none that stands ahead of it
-  pub insert_at : (m : X) (xs : List X) (i : ℕ) (d : X) → i ≤ length xs → ((k : ℕ) → k < i → before (key m) (key (get_or xs k d)) ≡ false)
-      → (i < length xs → before (key m) (key (get_or xs i d)) ≡ true) → insert key m xs ≡ inserted xs i m
+  pub insert_at : (m : X) (xs : List X) (i : ℕ) (d : X) → i ≤ length xs → ((k : ℕ) → k < i → before (key m) (key (slice_index_or xs k d)) ≡ false)
+      → (i < length xs → before (key m) (key (slice_index_or xs i d)) ≡ true) → insert key m xs ≡ inserted xs i m
   insert_at m [] zero d le low high = refl
   insert_at m [] (suc i) d le low high = absurd (omega arith)
   insert_at m (x ∷ xs) zero d le low high = let b : before (key m) (key x) ≡ true = high (omega arith) in simp b
@@ -94,6 +94,14 @@ module _ {X : Type 0} (key : X → Key) where
       let b : before (key m) (key x) ≡ false = low 0 (omega arith) in
       let ih = insert_at m xs i d (omega arith) (λ k h. low (suc k) (omega arith)) (λ h. high (omega arith)) in
       simp b (ap (λ l. x ∷ l) ih)
+
+  -- m goes in at the first that it comes before, or at the end
+  pub insert_at_first : (m : X) (xs : List X) → insert key m xs ≡ inserted xs (position_or_len (λ x. before (key m) (key x)) xs) m
+  insert_at_first m [] = refl
+  insert_at_first m (x ∷ xs) =
+      let i = position_or_len (λ (y : X). before (key m) (key y)) xs in
+      let e : 1 + i ≡ suc i = omega arith in
+      ⊎_elim (λ (b : before (key m) (key x) ≡ true). simp b) (λ (b : before (key m) (key x) ≡ false). simp (b, e) (ap (λ l. x ∷ l) (insert_at_first m xs))) (cases_Bool (before (key m) (key x)))
 
   pub sorted_from_rising : (xs : List X) → Rising key xs → Sorted key xs
   sorted_from_rising [] h = tt

@@ -1,92 +1,63 @@
 -- Keys stand in a strict order that tells any two apart.
-use Rattle.std.proofs.Common.{◌≡◌, ℕ, ◌<◌, Bool, true, false, ltb, ◌⊎◌, refl, subst, inl, inr, ⊎_elim, arith}
-use Rattle.std.proofs.lemmas.Bool.{cases_Bool, and_parts, eqb-true, eq-eqb, both_ways, and_from}
+use Rattle.std.proofs.Common.{◌≡◌, ℕ, ◌<◌, Bool, true, false, cond, ◌&&◌, ◌||◌, ltb, eqb, Ordering, Less, Equal, Greater, sym, refl, ap, ◌∙◌, subst, ⊎_elim, arith, rules}
+use Rattle.std.specs.Cmp.{IsTotalOrder, IsStrictWeakOrder, unsigned_tied, tied_then, tied_itself}
+use Rattle.std.specs.Cmp.Rules.{comparing}
+use Rattle.std.specs.Ordering.{is_lt, is_eq, nat_cmp, ordering_then, ordering_reverse}
+use Rattle.std.proofs.lemmas.Bool.{cases_Bool, and_parts, eqb-true, both_ways}
 use Rattle.std.proofs.lemmas.Bool.Decides.{nat_tests}
+use Rattle.std.proofs.lemmas.List.MinMax.{ranks_by}
 use Rattle.event.specs.declared.Key.{Key}
-use Rattle.event.specs.Keys.{then, before, same, StrictOrder}
+use Rattle.event.specs.Keys.{key_cmp, then, before, same, StrictOrder}
 
--- one level of the comparison at a time
-then_never : (a : ℕ) (p : Bool) → p ≡ false → then a a p ≡ false
-then_never a p h = grind (arith, nat_tests)
-
-then_chain : (a b c : ℕ) (p q r : Bool) → (p ≡ true → q ≡ true → r ≡ true) → then a b p ≡ true → then b c q ≡ true → then a c r ≡ true
-then_chain a b c p q r f x y = go (cases_Bool p) (cases_Bool q)
+-- what `<` answers of numbers, and of two parts in turn
+pub lt_nat : (a b : ℕ) → is_lt (nat_cmp a b) ≡ ltb a b
+lt_nat a b = by_tests (ltb a b) (eqb a b)
   where
-    go : (p ≡ true) ⊎ (p ≡ false) → (q ≡ true) ⊎ (q ≡ false) → then a c r ≡ true
-    go (inl e) (inl d) = let z = f e d in grind (arith, nat_tests)
-    go (inl e) (inr d) = grind (arith, nat_tests)
-    go (inr e) (inl d) = grind (arith, nat_tests)
-    go (inr e) (inr d) = grind (arith, nat_tests)
+    by_tests : (s t : Bool) → is_lt (cond s Less (cond t Equal Greater)) ≡ s
+    by_tests true t = refl
+    by_tests false true = refl
+    by_tests false false = refl
 
-then_through : (a b c : ℕ) (p q r : Bool) → (p ≡ true → q ≡ false → r ≡ true) → then a b p ≡ true → then c b q ≡ false → then a c r ≡ true
-then_through a b c p q r f x y = go (cases_Bool p) (cases_Bool q)
-  where
-    go : (p ≡ true) ⊎ (p ≡ false) → (q ≡ true) ⊎ (q ≡ false) → then a c r ≡ true
-    go (inl e) (inl d) = grind (arith, nat_tests)
-    go (inl e) (inr d) = let z = f e d in grind (arith, nat_tests)
-    go (inr e) (inl d) = grind (arith, nat_tests)
-    go (inr e) (inr d) = grind (arith, nat_tests)
+pub lt_then : (p q : Ordering) → is_lt (ordering_then p q) ≡ (is_lt p || (is_eq p && is_lt q))
+lt_then Less q = refl
+lt_then Equal q = refl
+lt_then Greater q = refl
 
-then_apart : (a b : ℕ) (p q : Bool) → then a b p ≡ false → then b a q ≡ false → (a ≡ b) × (p ≡ false) × (q ≡ false)
-then_apart a b p q x y = (grind (arith, nat_tests), grind (arith, nat_tests), grind (arith, nat_tests))
+pub lt_nat_then : (a b : ℕ) (q : Ordering) → is_lt (ordering_then (nat_cmp a b) q) ≡ then a b (is_lt q)
+lt_nat_then a b q = lt_then (nat_cmp a b) q ∙ (λ i. lt_nat a b i || (unsigned_tied a b i && is_lt q))
 
--- where the first parts differ they decide, and where they are equal what follows does
-pub then_differ : (a b : ℕ) (p : Bool) → (a ≡ b → ⊥) → ltb a b ≡ then a b p
-then_differ a b p h = grind (arith, nat_tests)
+pub key_total : IsTotalOrder key_cmp
+key_total = search (comparing, rules)
 
-pub then_equal : (a b : ℕ) (p q : Bool) → a ≡ b → p ≡ q → p ≡ then a b q
-then_equal a b p q e f = grind (arith, nat_tests)
-
-pub never : (a : Key) → before a a ≡ false
+pub is_before : (a b : Key) → is_lt (key_cmp a b) ≡ before a b
 unfolding before
-never a = then_never a.time _ (then_never a.receiver _ (then_never a.sender _ (grind (arith, nat_tests))))
+is_before a b =
+    lt_nat_then a.time b.time _
+    ∙ ap (then a.time b.time) (lt_nat_then a.receiver b.receiver _ ∙ ap (then a.receiver b.receiver) (lt_nat_then a.sender b.sender _ ∙ ap (then a.sender b.sender) (lt_nat a.number b.number)))
 
-pub chain : (a b c : Key) → before a b ≡ true → before b c ≡ true → before a c ≡ true
-unfolding before
-chain a b c =
-    then_chain a.time b.time c.time _ _ _
-    (then_chain a.receiver b.receiver c.receiver _ _ _
-    (then_chain a.sender b.sender c.sender _ _ _ (λ x y. grind (arith, nat_tests))))
+pub is_same : (a b : Key) → is_eq (key_cmp a b) ≡ same a b
+unfolding same
+is_same a b =
+    sym (tied_then (nat_cmp a.time b.time) _) ∙ (λ i. unsigned_tied a.time b.time i
+    && (sym (tied_then (nat_cmp a.receiver b.receiver) _) ∙ (λ j. unsigned_tied a.receiver b.receiver j
+    && (sym (tied_then (nat_cmp a.sender b.sender) (nat_cmp a.number b.number)) ∙ (λ k. unsigned_tied a.sender b.sender k && unsigned_tied a.number b.number k)) j)) i)
 
-pub apart : (a b : Key) → before a b ≡ false → before b a ≡ false → a ≡ b
-unfolding before
-apart a b x y =
-    let t = then_apart a.time b.time _ _ x y in
-    let r = then_apart a.receiver b.receiver _ _ t.1 t.2 in
-    let s = then_apart a.sender b.sender _ _ r.1 r.2 in
-    let p = s.1 in
-    let q = s.2 in
-    let n : a.number ≡ b.number = grind (arith, nat_tests) in
-    λ i. record { time = t.0 i; receiver = r.0 i; sender = s.0 i; number = n i }
-
-pub strict_order : StrictOrder
-strict_order = record { never = never; chain = chain; apart = apart }
-
--- what comes before b comes before all that does not come before b
-pub through : (a b c : Key) → before a b ≡ true → before c b ≡ false → before a c ≡ true
-unfolding before
-through a b c =
-    then_through a.time b.time c.time _ _ _
-    (then_through a.receiver b.receiver c.receiver _ _ _
-    (then_through a.sender b.sender c.sender _ _ _ (λ x y. grind (arith, nat_tests))))
+pub ranks : IsStrictWeakOrder before
+ranks = subst IsStrictWeakOrder (λ i a b. is_before a b i) (ranks_by key_total (λ k. k))
 
 -- of two keys, one does not come before the other
 pub not_back : (a b : Key) → before a b ≡ true → before b a ≡ false
-not_back a b h = ⊎_elim (λ (e : before b a ≡ true). absurd (both_ways (before a a) (never a) (chain a b a h e))) (λ e. e) (cases_Bool (before b a))
+not_back = ranks.one_way
 
-pub sooner : (a b : Key) → a.time < b.time → before a b ≡ true
-unfolding before
-sooner a b h = grind (arith, nat_tests)
+pub never : (a : Key) → before a a ≡ false
+never a = ⊎_elim (λ (e : before a a ≡ true). not_back a a e) (λ e. e) (cases_Bool (before a a))
 
-pub before_ne : (a b : Key) → before a b ≡ true → a ≡ b → ⊥
-before_ne a b h e = both_ways (before a b) (subst (λ k. before a k ≡ false) e (never a)) h
+-- what comes before b comes before all that does not come before b
+pub through : (a b c : Key) → before a b ≡ true → before c b ≡ false → before a c ≡ true
+through a b c h k = ⊎_elim (λ e. e) (λ (e : before a c ≡ false). absurd (both_ways _ (ranks.chain a c b e k) h)) (cases_Bool (before a c))
 
-pub same_refl : (a : Key) → same a a ≡ true
-unfolding same
-same_refl a =
-    and_from _ _ (eq-eqb a.time a.time refl)
-    (and_from _ _ (eq-eqb a.receiver a.receiver refl)
-    (and_from _ _ (eq-eqb a.sender a.sender refl) (eq-eqb a.number a.number refl)))
+pub chain : (a b c : Key) → before a b ≡ true → before b c ≡ true → before a c ≡ true
+chain a b c h k = through a b c h (not_back b c k)
 
 pub same_true : (a b : Key) → same a b ≡ true → a ≡ b
 unfolding same
@@ -99,6 +70,31 @@ same_true a b h =
     let s' = eqb-true _ _ s.0 in
     let n' = eqb-true _ _ s.1 in
     λ i. record { time = t' i; receiver = r' i; sender = s' i; number = n' i }
+
+neither : (r : Ordering) → is_lt r ≡ false → is_lt (ordering_reverse r) ≡ false → is_eq r ≡ true
+neither Less h k = sym h
+neither Equal h k = refl
+neither Greater h k = sym k
+
+-- what a total order puts neither way, it holds equal
+pub neither_way : {K : Type 0} {R : K → K → Ordering} → IsTotalOrder R → (x y : K) → is_lt (R x y) ≡ false → is_lt (R y x) ≡ false → is_eq (R x y) ≡ true
+neither_way {K} {R} o x y h k = neither (R x y) h (ap is_lt (sym (o.antisymm y x)) ∙ k)
+
+pub apart : (a b : Key) → before a b ≡ false → before b a ≡ false → a ≡ b
+apart a b h k = same_true a b (sym (is_same a b) ∙ neither_way key_total a b (is_before a b ∙ h) (is_before b a ∙ k))
+
+pub strict_order : StrictOrder
+strict_order = record { never = never; chain = chain; apart = apart }
+
+pub sooner : (a b : Key) → a.time < b.time → before a b ≡ true
+unfolding before
+sooner a b h = grind (arith, nat_tests)
+
+pub before_ne : (a b : Key) → before a b ≡ true → a ≡ b → ⊥
+before_ne a b h e = both_ways (before a b) (subst (λ k. before a k ≡ false) e (never a)) h
+
+pub same_refl : (a : Key) → same a a ≡ true
+same_refl a = sym (is_same a a) ∙ ap is_eq (tied_itself key_total a)
 
 pub same_from : (a b : Key) → a ≡ b → same a b ≡ true
 same_from a b e = subst (λ k. same a k ≡ true) e (same_refl a)

@@ -1,5 +1,7 @@
 -- The key of a message, and the order of keys.
 use Rattle.std.specs.Prelude.{◌≡◌, ℕ, Bool, true, false, ◌&&◌, ◌||◌, ◌==◌, nat_lt}
+use Rattle.std.specs.declared.cmp.Ordering.{Ordering}
+use Rattle.std.specs.Ordering.{nat_cmp, on, then_cmp}
 use Rattle.event.specs.declared.Key.{Key}
 use Rattle.event.specs.declared.Message.{Message}
 
@@ -26,3 +28,7 @@ pub record StrictOrder : Type 0 where
   pub never : (a : Key) → before a a ≡ false
   pub chain : (a b c : Key) → before a b ≡ true → before b c ≡ true → before a c ≡ true
   pub apart : (a b : Key) → before a b ≡ false → before b a ≡ false → a ≡ b
+
+-- what a comparison of keys answers, part by part
+abbrev pub key_cmp : Key → Key → Ordering
+key_cmp = then_cmp (on (λ k. k.time) nat_cmp) (then_cmp (on (λ k. k.receiver) nat_cmp) (then_cmp (on (λ k. k.sender) nat_cmp) (on (λ k. k.number) nat_cmp)))

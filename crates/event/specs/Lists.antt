@@ -1,5 +1,6 @@
 -- Lists in the order of their keys, of anything that has a key.
-use Rattle.std.specs.Prelude.{◌≡◌, true, false, cond, List, [], ◌∷◌, Some, None, Option, ◌≢◌}
+use Rattle.std.specs.Prelude.{◌≡◌, Bool, true, false, List, nat_lt, vec_len, vec_capacity, if◌then◌else◌, [], ◌∷◌, Some, None, Option, ◌≢◌}
+use Rattle.std.specs.Global.{Vec}
 use Rattle.std.specs.List.{AllByRecursion}
 use Rattle.event.specs.declared.Key.{Key}
 use Rattle.event.specs.Keys.{before}
@@ -12,11 +13,15 @@ abbrev pub rest : {X : Type 0} → List X → List X
 rest [] = []
 rest (x ∷ xs) = xs
 
+-- one more goes in where the vector is
+abbrev pub has_room : {X : Type 0} → Vec X → Bool
+has_room v = nat_lt (vec_len v) (vec_capacity v)
+
 module _ {X : Type 0} (key : X → Key) where
   -- m goes in front of the first that it comes before, so behind those with its own key
   abbrev pub insert : X → List X → List X
   insert m [] = m ∷ []
-  insert m (x ∷ xs) = cond (before (key m) (key x)) (m ∷ x ∷ xs) (x ∷ insert m xs)
+  insert m (x ∷ xs) = if before (key m) (key x) then m ∷ x ∷ xs else x ∷ insert m xs
 
   -- each in turn
   abbrev pub insert_all : List X → List X → List X

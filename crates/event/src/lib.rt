@@ -5,13 +5,13 @@ ghost use Rattle.std.specs.Prelude.{◌≡◌, ℕ, ◌+◌, ◌<◌, ◌≤◌,
 ghost use Rattle.std.specs.List.{insert as inserted};
 ghost use Rattle.std.specs.List.Sorted.{IsPermutation};
 ghost use Rattle.event.specs.Keys.{key_of, before, StrictOrder};
-ghost use Rattle.event.specs.Lists.{insert, Sorted};
+ghost use Rattle.event.specs.Lists.{insert, has_room, Sorted};
 ghost use Rattle.event.specs.Starts.{message_of};
 
-// The sender of every starting message; no place has this number.
+// The sender of every starting message; no place has this number. No Option: a message has its sender in 8 bits, and keys compare it.
 pub const START_SENDER: u8 = 255;
 
-// A message that waits, or has run, at its receiver.
+// A message that waits, or has run, at its receiver. Its kind is a number: each model has kinds of its own, and any number may come.
 #[derive(Clone, Copy, PartialEq, Eq, Debug)]
 pub struct Message {
     pub time: u32,
@@ -23,7 +23,7 @@ pub struct Message {
 }
 
 // What the sequence of messages goes by.
-#[derive(Clone, Copy, PartialEq, Eq, Debug)]
+#[derive(Clone, Copy, PartialEq, Eq, PartialOrd, Ord, Debug)]
 pub struct Key {
     pub time: u32,
     pub receiver: u8,
@@ -31,7 +31,7 @@ pub struct Key {
     pub number: u32,
 }
 
-// A starting message as it is given: sender and number follow from its position in the list.
+// A starting message as it is given: sender and number follow from its position in the list. Its kind is a number, as a message's.
 #[derive(Clone, Copy, PartialEq, Eq, Debug)]
 pub struct Start {
     pub time: u32,
@@ -59,16 +59,7 @@ impl Key {
         ensures value { result ≡ before self.now other.now }
         ensures strict { StrictOrder }
     {
-        if self.time != other.time {
-            return self.time < other.time;
-        }
-        if self.receiver != other.receiver {
-            return self.receiver < other.receiver;
-        }
-        if self.sender != other.sender {
-            return self.sender < other.sender;
-        }
-        self.number < other.number
+        self < other
     }
 }
 
@@ -94,19 +85,16 @@ fn place_for(list: &[Message], m: &Message) -> usize
     ensures value { insert key_of m.now list.now ≡ inserted list.now result m.now }
 {
     let key = m.key();
-    for (i, x) in list.iter().enumerate() {
-        if key.precedes(&x.key()) {
-            return i;
-        }
-    }
-    list.len()
+    list.iter()
+        .position(|x| key.precedes(&x.key()))
+        .unwrap_or(list.len())
 }
 
 // Puts m into a list in order, behind those with its key. Hands it back where the room is used up, and never allocates.
 pub fn insert_by_key(list: &mut Vec<Message>, m: Message) -> Result<(), Message>
-    ensures told { result ≡ (if nat_lt (vec_len list.old) (vec_capacity list.old) then Ok tt else Err m) }
-    ensures items { list.new.items ≡ (if nat_lt (vec_len list.old) (vec_capacity list.old) then insert key_of m list.old.items else list.old.items) }
-    ensures len { vec_len list.new ≡ (if nat_lt (vec_len list.old) (vec_capacity list.old) then vec_len list.old + 1 else vec_len list.old) }
+    ensures told { result ≡ (if has_room list.old then Ok tt else Err m) }
+    ensures items { list.new.items ≡ (if has_room list.old then insert key_of m list.old.items else list.old.items) }
+    ensures len { vec_len list.new ≡ (if has_room list.old then vec_len list.old + 1 else vec_len list.old) }
     ensures capacity { vec_capacity list.new ≡ vec_capacity list.old }
     ensures sorted { Sorted key_of list.old.items → Sorted key_of list.new.items }
     ensures shuffled { is_ok result ≡ true → IsPermutation (m ∷ list.old.items) list.new.items }
@@ -115,7 +103,5 @@ pub fn insert_by_key(list: &mut Vec<Message>, m: Message) -> Result<(), Message>
     if list.len() >= list.capacity() {
         return Err(m);
     }
-    let at = place_for(list, &m);
-    let _ = list.insert(at, m);
-    Ok(())
+    list.insert(place_for(list, &m), m).map_err(|e| e.value)
 }
