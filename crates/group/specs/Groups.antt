@@ -1,5 +1,5 @@
 -- Which variants a group has, and what each operation makes of it.
-use Rattle.std.specs.Prelude.{ℕ, zero, suc, ◌+◌, ◌-◌, ◌/◌, ◌%◌, ◌^◌, Bool, cond, ◌&&◌, ◌==◌, bit_and, bit_or, nat_lt}
+use Rattle.std.specs.Prelude.{ℕ, zero, suc, ◌+◌, ◌-◌, ◌/◌, ◌%◌, ◌^◌, Bool, ◌&&◌, ◌==◌, bit_and, bit_or, nat_lt, if◌then◌else◌}
 use Rattle.group.specs.declared.Group.{Group}
 
 -- the digit of a mask at v, 0 or 1
@@ -15,11 +15,11 @@ none = record { mask = 0 }
 
 -- g and v; g itself if v is above 15
 unfoldable pub with : Group → ℕ → Group
-with g v = cond (nat_lt v 16) (record { mask = bit_or g.mask (2 ^ v) }) g
+with g v = if nat_lt v 16 then record { mask = bit_or g.mask (2 ^ v) } else g
 
 -- g but v
 unfoldable pub without : Group → ℕ → Group
-without g v = cond (nat_lt v 16) (record { mask = bit_and g.mask (65535 - 2 ^ v) }) g
+without g v = if nat_lt v 16 then record { mask = bit_and g.mask (65535 - 2 ^ v) } else g
 
 abbrev pub only : ℕ → Group
 only v = with none v
@@ -42,4 +42,4 @@ is_empty g = g.mask == 0
 -- how many numbers below n pass
 unfoldable pub count : (ℕ → Bool) → ℕ → ℕ
 count f zero = 0
-count f (suc n) = count f n + cond (f n) 1 0
+count f (suc n) = count f n + (if f n then 1 else 0)

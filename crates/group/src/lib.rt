@@ -8,12 +8,13 @@ ghost use Rattle.group.specs.Groups.{has, none, only, with, without, joined, sha
 pub const VARIANTS: u8 = 16;
 
 // A set of variants. No group has a variant above 15.
-#[derive(Clone, Copy, PartialEq, Eq, Debug)]
+#[derive(Clone, Copy, PartialEq, Eq, PartialOrd, Ord, Debug)]
 pub struct Group {
     mask: u16,
 }
 
 impl Group {
+    #[tactic(auto, using(crate::proofs::Members::has_none))]
     pub fn empty() -> Group
         ensures value { result ≡ none }
         ensures members { (w : ℕ) → has result w ≡ false }
@@ -29,6 +30,7 @@ impl Group {
         Group::empty().with(v)
     }
 
+    #[tactic(auto, using(crate::proofs::Members::has_above), unfolding(crate::specs::Groups::has))]
     pub fn has(self, v: u8) -> bool
         ensures value { result ≡ has self v }
         ensures above { (w : ℕ) → nat_lt w 16 ≡ false → has self w ≡ false }
@@ -37,6 +39,7 @@ impl Group {
     }
 
     // With v too; the same group if v is above 15.
+    #[tactic(auto, using(crate::proofs::Members::has_with, crate::proofs::Members::with_above), unfolding(crate::specs::Groups::with))]
     pub fn with(self, v: u8) -> Group
         ensures value { result ≡ with self v }
         ensures members { (w : ℕ) → has result w ≡ ((nat_lt v 16 && w == v) || has self w) }
@@ -49,6 +52,7 @@ impl Group {
         }
     }
 
+    #[tactic(auto, using(crate::proofs::Members::has_without, crate::proofs::Members::without_above), unfolding(crate::specs::Groups::without))]
     pub fn without(self, v: u8) -> Group
         ensures value { result ≡ without self v }
         ensures members { (w : ℕ) → has result w ≡ (not (w == v) && has self w) }
@@ -62,6 +66,7 @@ impl Group {
     }
 
     // The variants of either.
+    #[tactic(auto, using(crate::proofs::Members::has_joined))]
     pub fn union(self, other: Group) -> Group
         ensures value { result ≡ joined self other }
         ensures members { (w : ℕ) → has result w ≡ (has self w || has other w) }
@@ -72,6 +77,7 @@ impl Group {
     }
 
     // The variants of both.
+    #[tactic(auto, using(crate::proofs::Members::has_shared))]
     pub fn intersection(self, other: Group) -> Group
         ensures value { result ≡ shared self other }
         ensures members { (w : ℕ) → has result w ≡ (has self w && has other w) }
@@ -82,6 +88,7 @@ impl Group {
     }
 
     // The variants that the other has not.
+    #[tactic(auto, using(crate::proofs::Members::has_apart))]
     pub fn difference(self, other: Group) -> Group
         ensures value { result ≡ apart self other }
         ensures members { (w : ℕ) → has result w ≡ (has self w && not (has other w)) }
@@ -91,6 +98,7 @@ impl Group {
         }
     }
 
+    #[tactic(auto, using(crate::proofs::Members::empty_none, crate::proofs::Members::not_empty_least), unfolding(crate::specs::Groups::is_empty))]
     pub fn is_empty(self) -> bool
         ensures value { result ≡ is_empty self }
         ensures members { result ≡ true → (w : ℕ) → has self w ≡ false }
@@ -100,6 +108,7 @@ impl Group {
     }
 
     // How many variants it has.
+    #[tactic(auto, using(crate::proofs::Members::ones_members))]
     pub fn size(self) -> u32
         ensures { result ≡ count (has self) 16 }
     {
@@ -120,7 +129,7 @@ impl Group {
     pub fn mask(self) -> u16
         ensures { result ≡ self.mask }
     {
-        let mask = self.mask;
+        let Group { mask } = self;
         mask
     }
 }

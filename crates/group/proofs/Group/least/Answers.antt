@@ -3,8 +3,5 @@ use Rattle.std.proofs.Common.{sym, ◌∙◌, arith}
 use Rattle.group.proofs.Members.{least_first}
 use Rattle.group.proofs.Group.least.Goals as goal
 
-pub returns-then-is_empty : goal.returns-then-is_empty
-returns-then-is_empty c = c.is_empty.ensures.members c.if-is_empty.true
-
 pub returns : goal.returns
 returns c = least_first c.args.self (sym c.is_empty.ensures.value ∙ c.if-is_empty.false) (omega arith)

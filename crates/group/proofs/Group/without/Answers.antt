@@ -1,21 +1,15 @@
 -- One digit less.
-use Rattle.std.proofs.Common.{◌≡◌, ◌-◌, sym, ap, ◌∙◌, arith}
-use lib.Bits.{bit_and}
-use Rattle.std.proofs.lemmas.Nat.{one_shl}
-use Rattle.std.proofs.lemmas.Bool.{lt-ltb, le-ltb, cond-true, cond-false}
+use Rattle.std.proofs.Common.{◌≡◌, sym, ap, ◌∙◌, rules, arith}
+use Rattle.std.proofs.lemmas.Bool.{le-ltb}
 use Rattle.group.specs.Groups.{has, without}
-use Rattle.group.proofs.Members.{has_without}
+use Rattle.group.proofs.Members.{without_above, has_without}
 use Rattle.group.proofs.Group.without.Goals as goal
 
-pub returns-then-v-ge-VARIANTS : goal.returns-then-v-ge-VARIANTS
-unfolding without
-returns-then-v-ge-VARIANTS c =
-    let is : c.args.self ≡ without c.args.self c.args.v = sym (cond-false _ _ _ (le-ltb c.args.v 16 (omega arith))) in
-    record { value = is; members = λ w. ap (λ g. has g w) is ∙ has_without c.args.self c.args.v w }
+pub returns-then-v-ge-VARIANTS-clause-members : goal.returns-then-v-ge-VARIANTS-clause-members
+returns-then-v-ge-VARIANTS-clause-members c w = ap (λ g. has g w) (sym (without_above c.args.self c.args.v (le-ltb c.args.v 16 (omega arith)))) ∙ has_without c.args.self c.args.v w
 
-pub returns : goal.returns
+pub returns-clause-members : goal.returns-clause-members
 unfolding without
-returns c =
-    let is : _ ≡ without c.args.self c.args.v =
-    ap (λ x. record { mask = bit_and c.args.self.mask (65535 - x) }) (one_shl c.args.v 16 (omega arith)) ∙ sym (cond-true _ _ _ (lt-ltb c.args.v 16 (omega arith))) in
-    record { value = is; members = λ w. ap (λ g. has g w) is ∙ has_without c.args.self c.args.v w }
+returns-clause-members c w =
+    let is : _ ≡ without c.args.self c.args.v = search rules in
+    ap (λ g. has g w) is ∙ has_without c.args.self c.args.v w
