@@ -1,6 +1,7 @@
 -- What a model means.
 use Rattle.std.specs.Prelude.{◌≡◌, ℕ, ◌<◌, ◌≤◌, List, [], ◌∷◌, length}
 use Rattle.std.specs.List.{AllByRecursion}
+use Rattle.event.specs.declared.Message.{Message}
 use Rattle.model.specs.declared.Arrival.{Arrival}
 use Rattle.model.specs.declared.Sent.{Sent}
 use Rattle.model.specs.declared.Sends.{Sends}
@@ -18,6 +19,10 @@ pub record Meaning : Type 0 where
   pub start : ℕ → List ℕ
   -- what a place does, by its number, its order, its words and what arrives
   pub react : ℕ → ℕ → List ℕ → Arrival → Reaction
+
+-- what a place is told of a message
+abbrev pub arrival_of : Message → Arrival
+arrival_of m = record { time = m.time; sender = m.sender; kind = m.kind; «data» = m.«data» }
 
 -- the messages sent, in their sequence
 abbrev pub listed : Sends → List Sent

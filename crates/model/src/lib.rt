@@ -1,17 +1,18 @@
 // What a day is a day of: places with words, and how each reacts to a message.
 #![tactic(auto)]
 
-ghost use Rattle.std.specs.Prelude.{◌≡◌, ℕ, ◌<◌, ◌≤◌, List, length};
-ghost use Rattle.model.specs.declared.Arrival.{Arrival};
+ghost use Rattle.std.specs.Prelude.{◌≡◌, ◌≤◌, length};
+ghost use Rattle.event.specs.Lists.{first};
 ghost use Rattle.model.specs.Faults.{refusal_of};
-ghost use Rattle.model.specs.Meaning.{Meaning, Lawful};
+ghost use Rattle.model.specs.Meaning.{Meaning, Law, arrival_of, listed};
 
+use event::Message;
 use refusal::{Layer, Refusal};
 
 // The words of a place.
 pub type Words = [u32; 8];
 
-// What a place is told of a message that reaches it.
+// What a place is told of a message that reaches it. Its kind is a number, as a message's.
 #[derive(Clone, Copy, PartialEq, Eq, Debug)]
 pub struct Arrival {
     pub time: u32,
@@ -20,7 +21,20 @@ pub struct Arrival {
     pub data: u32,
 }
 
-// A message as a reaction sends it: its number and its time follow from the sender.
+impl From<&Message> for Arrival {
+    ghost from_gives = { λ m a. a ≡ arrival_of m.now };
+
+    fn from(m: &Message) -> Arrival {
+        Arrival {
+            time: m.time,
+            sender: m.sender,
+            kind: m.kind,
+            data: m.data,
+        }
+    }
+}
+
+// A message as a reaction sends it: its number and its time follow from the sender. Its kind is a number, as a message's.
 #[derive(Clone, Copy, PartialEq, Eq, Debug)]
 pub struct Sent {
     pub receiver: u8,
@@ -29,12 +43,34 @@ pub struct Sent {
     pub data: u32,
 }
 
-// The messages of one reaction, in the sequence of their numbers.
+// The messages of one reaction, in the sequence of their numbers. At most two, by the type; a Vec would allocate at each event.
 #[derive(Clone, Copy, PartialEq, Eq, Debug)]
 pub enum Sends {
     Nothing,
     One(Sent),
     Two(Sent, Sent),
+}
+
+impl Sends {
+    pub fn count(&self) -> u32
+        ensures value { result ≡ length (listed self.now) }
+        ensures few { result ≤ 2 }
+    {
+        match self {
+            Sends::Nothing => 0,
+            Sends::One(_) => 1,
+            Sends::Two(_, _) => 2,
+        }
+    }
+
+    pub fn first(&self) -> Option<Sent>
+        ensures { result ≡ first (listed self.now) }
+    {
+        match self {
+            Sends::Nothing => None,
+            Sends::One(sent) | Sends::Two(sent, _) => Some(*sent),
+        }
+    }
 }
 
 // Why no model was made.
@@ -44,11 +80,11 @@ pub enum ModelFault {
     Limits,
 }
 
-impl ModelFault {
-    pub fn refusal(&self) -> Refusal
-        ensures { result ≡ refusal_of self.now }
-    {
-        match self {
+impl From<ModelFault> for Refusal {
+    ghost from_gives = { λ fault r. r ≡ refusal_of fault };
+
+    fn from(fault: ModelFault) -> Refusal {
+        match fault {
             ModelFault::Limits => Refusal {
                 number: 1,
                 layer: Layer::Model,
@@ -76,12 +112,6 @@ pub trait Model {
         ensures words { words.new ≡ ((meaning self.now).react place order words.old arrival).words }
         ensures sends { result ≡ ((meaning self.now).react place order words.old arrival).sends };
 
-    // at least one place and at most 32
-    ghost counted: { (m : Self) → (1 ≤ (meaning m).places) × ((meaning m).places ≤ 32) };
-
-    // eight starting words
-    ghost begun: { (m : Self) (place : ℕ) → length ((meaning m).start place) ≡ 8 };
-
-    // whatever is asked: receivers are places, and delays lie between 1 and 86,400
-    ghost lawful: { (m : Self) (place order : ℕ) (words : List ℕ) (a : Arrival) → Lawful (meaning m).places ((meaning m).react place order words a).sends };
+    // one place or more and at most 32, eight starting words each, receivers that are places and delays between 1 and 86,400
+    ghost law: { (m : Self) → Law (meaning m) };
 }

@@ -9,7 +9,7 @@ pub enum Layer {
     Study,
 }
 
-// The number is 0 for want of memory. The position is one in a starting list, or 0.
+// The number is what users are told and look up, so it is one and no enum; each fault of a layer is a case of that layer's enum. It is 0 for want of memory. The position is one in a starting list, or 0 and no None: the rule tells 0 where there is none.
 #[derive(Clone, Copy, PartialEq, Eq, Debug)]
 pub struct Refusal {
     pub number: u8,
