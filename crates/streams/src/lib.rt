@@ -35,11 +35,7 @@ pub fn draw(x: u32) -> u32
 pub fn draws(n: u32, x: u32) -> u32
     ensures { result ≡ draws_of n x }
 {
-    let mut last = x;
-    for _i in 0..n {
-        last = draw(last);
-    }
-    last
+    (0..n).fold(x, |last, _| draw(last))
 }
 
 // The multipliers of all streams.
@@ -53,5 +49,5 @@ fn multipliers() -> &'static [u32; 256]
 pub fn multiplier(k: u8) -> u32
     ensures { result ≡ multiplier_of k }
 {
-    multipliers()[k as usize]
+    multipliers()[usize::from(k)]
 }
