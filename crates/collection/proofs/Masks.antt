@@ -1,5 +1,6 @@
 -- What a mask does to the bits of a word.
-use Rattle.std.proofs.Common.{◌≡◌, ℕ, zero, suc, ◌+◌, ◌-◌, ◌*◌, ◌/◌, ◌%◌, ◌^◌, ◌<◌, ◌≤◌, min, max, true, false, cond, not, ◌&&◌, ◌||◌, eqb, leb, ◌⊎◌, sym, refl, ap, ◌∙◌, inl, inr, add-mul, one-mul, pow-suc, div-one, one-add, arith}
+use Rattle.std.proofs.Common.{◌≡◌, ℕ, zero, suc, ◌+◌, ◌-◌, ◌*◌, ◌/◌, ◌%◌, ◌^◌, ◌<◌, ◌≤◌, min, max, true, false, cond, not, ◌&&◌, ◌||◌, eqb, ◌==◌, leb, ◌⊎◌, sym, refl, ap, ◌∙◌, inl, inr, add-mul, one-mul, pow-suc, div-one, one-add, arith}
+use Rattle.std.proofs.Math.Nat.{div-eq_of_lt, pow-le-pow_right}
 use lib.Dec.{eqb-suc-zero, eqb-zero-suc, eqb-suc-suc}
 use lib.Bits.{bit_or, bit_and, or_shr, or_step, and_step, or_add_and, and_high}
 use Rattle.std.proofs.lemmas.Nat.{shr-shr, shr_split, shr_high, mod_below, pow_pos, pow_below}
@@ -22,6 +23,13 @@ bit_zero w = ap (λ x. x % 2) (div-one w)
 bit_none : (i : ℕ) → bit 0 i ≡ 0
 bit_none zero = refl
 bit_none (suc i) = bit_suc 0 i ∙ bit_none i
+
+-- a word of n bits has none above them
+pub has_above : (n w i : ℕ) → w < 2 ^ n → n ≤ i → has w i ≡ false
+has_above n w i h l =
+    let p : 2 ^ n ≤ 2 ^ i = pow-le-pow_right (omega arith) l in
+    let q : w < 2 ^ i = omega arith in
+    ap (λ x. x % 2 == 1) (div-eq_of_lt q)
 
 has_or : (a b i : ℕ) → has (bit_or a b) i ≡ (has a i || has b i)
 has_or a b i =
@@ -112,14 +120,6 @@ has_without w i k = go (cases_Bool (has w i))
         same : (k ≡ i) ⊎ (k ≡ i → ⊥) → has w k ≡ (not (eqb k i) && has w k)
         same (inl s) = rw (s, e, eq-eqb i i refl)
         same (inr s) = rw (ne_eqb k i s)
-
--- a loop that has added the bits below i, one bit further
-pub all_free_more : (i : ℕ) → 1 ≤ i → all_free_word (i + 1 - 1) ≡ with (all_free_word (i - 1)) i
-all_free_more zero h = absurd (omega arith)
-all_free_more (suc n) h =
-    let p : suc n + 1 - 1 ≡ suc n = omega arith in
-    let q : suc n - 1 ≡ n = omega arith in
-    rw (p, q)
 
 -- every tanker's bit, and no other
 pub has_all_free : (t k : ℕ) → has (all_free_word t) k ≡ (leb 1 k && leb k t)

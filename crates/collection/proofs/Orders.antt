@@ -1,10 +1,10 @@
 -- What an order chooses: the nearest farm, the farthest or the smallest-numbered.
-use Rattle.std.proofs.Common.{◌≡◌, ℕ, ◌<◌, ◌≤◌, Bool, true, false, cond, ◌||◌, eqb, ltb, ◌⊎◌, IfSome, refl, ap, subst, inl, inr, arith}
+use Rattle.std.proofs.Common.{◌≡◌, ℕ, ◌<◌, ◌≤◌, Bool, true, false, cond, ◌||◌, eqb, ltb, ◌⊎◌, refl, ap, subst, inl, inr, arith}
 use Rattle.std.proofs.lemmas.Bool.{eq-eqb, ne_eqb}
 use Rattle.std.proofs.lemmas.Bool.Decides.{nat_tests}
 use Rattle.collection.specs.Choice.{preferred, chosen_farm_of, Noted, Nearest, Farthest, Smallest, Chosen}
 use Rattle.collection.specs.Roads.{drive_of}
-use Rattle.collection.specs.Picking.{LinesUp, Foremost, foremost, within, rightly}
+use Rattle.collection.specs.Picking.{LinesUp, Foremost, foremost, rightly}
 
 -- farm i, with drive x, goes ahead of farm k, with drive y, under order 2, under order 1 or under another
 abbrev ahead : Bool → Bool → ℕ → ℕ → ℕ → ℕ → Bool
@@ -28,9 +28,6 @@ by_order order = record {
 
 chosen : (order w f : ℕ) → Chosen (Foremost (preferred order)) w f (chosen_farm_of order w f)
 chosen order w f = foremost (preferred order) (by_order order) w f
-
-pub chosen_within : (order w n m : ℕ) → n ≤ m → IfSome (chosen_farm_of order w n) (λ k. k ≤ m)
-chosen_within order w n m h = within (preferred order) w n m h (chosen_farm_of order w n) (chosen order w n)
 
 -- what it is to be the same farm, or to go ahead under each order
 near : (x y i k : ℕ) → ((x ≡ y) × (i ≡ k)) ⊎ (ahead false false x y i k ≡ true) → (x ≤ y) × (x ≡ y → i ≤ k)

@@ -1,5 +1,5 @@
 -- The dairy. Its words: 0 the waiting farms, 1 the free tankers, 2 the bay's end, 3 the litres received.
-use Rattle.std.specs.Prelude.{ℕ, zero, suc, ◌+◌, ◌-◌, cond, ◌&&◌, List, Some, None, Option, ◌==◌, slice_set}
+use Rattle.std.specs.Prelude.{ℕ, zero, suc, ◌+◌, ◌-◌, if◌then◌else◌, ◌&&◌, List, Some, None, Option, ◌==◌, slice_set}
 use Rattle.model.specs.declared.Arrival.{Arrival}
 use Rattle.model.specs.Meaning.{Reaction}
 use Rattle.collection.specs.Bay.{bay_end, stay}
@@ -34,10 +34,7 @@ unloaded ws a =
 -- what the dairy does with a message
 abbrev pub dairy_reaction : ℕ → ℕ → ℕ → List ℕ → Arrival → Reaction
 dairy_reaction f t order ws a =
-    cond (a.kind == ready && is_farm_place f a.sender)
-    (dispatched f t order (slice_set ws 0 (with (word ws 0) a.sender)))
-    (cond (a.kind == free && is_tanker_place f t a.sender)
-    (dispatched f t order (slice_set ws 1 (with (word ws 1) (a.sender - f))))
-    (cond (a.kind == unload && is_tanker_place f t a.sender)
-    (unloaded ws a)
-    (ignored ws a)))
+    if a.kind == ready && is_farm_place f a.sender then dispatched f t order (slice_set ws 0 (with (word ws 0) a.sender))
+    else if a.kind == free && is_tanker_place f t a.sender then dispatched f t order (slice_set ws 1 (with (word ws 1) (a.sender - f)))
+    else if a.kind == unload && is_tanker_place f t a.sender then unloaded ws a
+    else ignored ws a

@@ -1,5 +1,8 @@
 -- The kinds of message of a collection day.
-use Rattle.std.specs.Prelude.{ℕ}
+use Rattle.std.specs.Prelude.{◌≡◌, ℕ, ◌<◌, Result, MatchResult}
+use Rattle.collection.specs.declared.kind.Kind.{Kind}
+use Rattle.collection.specs.declared.kind.Kind.TheVariants.{Milked, Ready, Free, Go, Pump, Loaded, Unload, Emptied}
+use Rattle.collection.specs.declared.kind.UnknownKind.{UnknownKind}
 
 -- milk is there, its litres the data
 abbrev pub milked : ℕ
@@ -32,3 +35,17 @@ unload = 6
 -- the tanker is empty again
 abbrev pub emptied : ℕ
 emptied = 7
+
+abbrev pub number_of : Kind → ℕ
+number_of Milked = milked
+number_of Ready = ready
+number_of Free = free
+number_of Go = go
+number_of Pump = pump
+number_of Loaded = loaded
+number_of Unload = unload
+number_of Emptied = emptied
+
+-- the kind with this number, or the number told back where it is above them all
+abbrev pub Numbered : ℕ → Result Kind UnknownKind → Type 0
+Numbered n r = MatchResult r (λ kind. number_of kind ≡ n) (λ e. (e.0 ≡ n) × (emptied < n))

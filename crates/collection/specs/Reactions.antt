@@ -1,10 +1,10 @@
 -- Whatever is asked, receivers are places and delays lie between a second and a day.
-use Rattle.std.specs.Prelude.{◌≡◌, ℕ, zero, suc, ◌+◌, ◌-◌, ◌<◌, ◌≤◌, true, ◌&&◌, ltb, List, IfSome, Some, None, Option, ◌==◌, nat_le, nat_lt, slice_set}
+use Rattle.std.specs.Prelude.{◌≡◌, ℕ, zero, suc, ◌+◌, ◌-◌, ◌<◌, ◌≤◌, true, ◌&&◌, List, IfSome, Some, None, Option, ◌==◌, nat_le, nat_lt, slice_set}
 use Rattle.std.proofs.Common.{arith, rules}
 use Rattle.std.proofs.ByRecursion.{All-get_or}
 use Rattle.std.proofs.lemmas.Bool.{cond_both, and_parts, leb-true}
 use Rattle.model.specs.declared.Arrival.{Arrival}
-use Rattle.model.specs.Meaning.{Reaction, Within, Lawful}
+use Rattle.model.specs.Meaning.{Law, Reaction, Within, Lawful}
 use Rattle.collection.specs.Bits.{with}
 use Rattle.collection.specs.Choice.{chosen_farm_of, free_tanker_of}
 use Rattle.collection.specs.Dairy.{matched, dispatched, dairy_reaction}
@@ -13,7 +13,7 @@ use Rattle.collection.specs.Kinds.{milked, ready, free, go, pump, loaded, unload
 use Rattle.collection.specs.Places.{dairy, is_farm_place, is_tanker_place}
 use Rattle.collection.specs.Replies.{word, message}
 use Rattle.collection.specs.Roads.{drives, drive_of}
-use Rattle.collection.specs.Rules.{react_of}
+use Rattle.collection.specs.Rules.{react_of, meaning_of}
 use Rattle.collection.specs.Tanker.{meets, tanker_reaction}
 use Rattle.collection.specs.Picking.{foremost, by_number, within}
 
@@ -47,7 +47,7 @@ module _ (f t : ℕ) where
   dispatched_kept : (order : ℕ) (ws : List ℕ) → Kept (dispatched f t order ws)
   dispatched_kept order ws =
       matched_kept ws (chosen_farm_of order (word ws 0) f) (free_tanker_of (word ws 1) t)
-      (within ltb (word ws 1) t t (omega arith) (free_tanker_of (word ws 1) t) (foremost ltb by_number (word ws 1) t))
+      (within nat_lt (word ws 1) t t (omega arith) (free_tanker_of (word ws 1) t) (foremost nat_lt by_number (word ws 1) t))
 
   dairy_kept : (order : ℕ) (ws : List ℕ) (a : Arrival) → Kept (dairy_reaction f t order ws a)
   dairy_kept order ws a =
@@ -86,3 +86,7 @@ module _ (f t : ℕ) where
       cond_both (place == dairy) _ _ Kept (λ _. dairy_kept order ws a)
       (λ _. cond_both (is_farm_place f place) _ _ Kept (λ _. farm_kept ws a)
       (λ _. cond_both (is_tanker_place f t place) _ _ Kept (λ _. tanker_kept h ws a) (λ _. tt)))
+
+-- the law of a model, within the limits
+pub law_kept : (f t : ℕ) → (1 ≤ f) × (f ≤ 10) × (1 ≤ t) × (t ≤ 6) → Law (meaning_of f t)
+law_kept f t h = record { least = omega arith; most = omega arith; begun = search rules; lawful = react_kept f t h.1 }

@@ -1,7 +1,8 @@
 -- The words of a place, and what a reaction leaves and sends.
-use Rattle.std.specs.Prelude.{ℕ, ◌+◌, ◌-◌, ◌^◌, min, cond, ◌||◌, List, ◌==◌, slice_index, slice_set}
+use Rattle.std.specs.Prelude.{ℕ, ◌+◌, ◌-◌, ◌^◌, min, if◌then◌else◌, ◌||◌, List, ◌==◌, slice_index, slice_set}
 use Rattle.model.specs.declared.Arrival.{Arrival}
 use Rattle.model.specs.declared.Sent.{Sent}
+use Rattle.model.specs.declared.Sends.{Sends}
 use Rattle.model.specs.declared.Sends.TheVariants.{Nothing, One}
 use Rattle.model.specs.Meaning.{Reaction}
 use Rattle.collection.specs.Kinds.{milked, loaded, unload}
@@ -18,6 +19,10 @@ grown a b = min (a + b) (2 ^ 32 - 1)
 abbrev pub message : ℕ → ℕ → ℕ → ℕ → Sent
 message receiver delay kind litres = record { receiver = receiver; delay = delay; kind = kind; «data» = litres }
 
+-- a place has these words after its reaction, and sends this
+abbrev pub reacted : List ℕ → Sends → Reaction
+reacted ws sends = record { words = ws; sends = sends }
+
 -- nothing is sent
 abbrev pub silent : List ℕ → Reaction
 silent ws = record { words = ws; sends = Nothing }
@@ -29,4 +34,4 @@ sending ws s = record { words = ws; sends = One s }
 -- any other message is ignored: nothing is sent, and only word 7 changes, by the data if the kind is milked, loaded or unload
 abbrev pub ignored : List ℕ → Arrival → Reaction
 ignored ws a =
-    silent (cond (a.kind == milked || (a.kind == loaded || a.kind == unload)) (slice_set ws 7 (grown (word ws 7) a.«data»)) ws)
+    silent (if a.kind == milked || (a.kind == loaded || a.kind == unload) then slice_set ws 7 (grown (word ws 7) a.«data») else ws)

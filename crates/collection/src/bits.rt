@@ -1,12 +1,11 @@
-// The bits of a word.
+// The bits of a word. A group has its own on 16 bits: a trait over both would have two impls with these very bodies.
 ghost use Rattle.std.specs.Prelude.{◌≡◌, ℕ, ◌<◌, not, ◌&&◌, ◌||◌, ◌==◌};
 ghost use Rattle.collection.specs.Bits.{has, with, without};
 
 pub(super) fn has_bit(word: u32, bit: u8) -> bool
-    requires { bit < 32 }
     ensures { result ≡ has word bit }
 {
-    (word >> bit) & 1 == 1
+    bit < 32 && (word >> bit) & 1 == 1
 }
 
 pub(super) fn with_bit(word: u32, bit: u8) -> u32

@@ -1,45 +1,63 @@
 // Which farm is chosen of those that wait, and which tanker of those that are free.
 ghost use Rattle.std.specs.Prelude.{◌≡◌, ◌≤◌, IfSome, ◌≢◌};
+ghost use Rattle.std.specs.Prelude.{◌-◌, fold, filter, None};
+ghost use Rattle.std.specs.List.{find, range_with_len};
+ghost use Rattle.collection.specs.Bits.{has};
 ghost use Rattle.collection.specs.Choice.{rather, preferred, chosen_farm_of, free_tanker_of, Chosen, Nearest, Farthest, Smallest};
 ghost use Rattle.collection.specs.Roads.{drive_of};
 
 use super::bits::has_bit;
-use super::{Collection, FARTHEST, SMALLEST};
+use super::{Collection, Preference};
+use std::ops::Range;
 
 // The seconds between the dairy and a place: the dairy itself, then farms 1 to 10.
 const DRIVES: [u32; 11] = [0, 600, 900, 900, 1200, 450, 1500, 1500, 750, 1050, 600];
 
 pub(super) fn drive(farm: u8) -> u32
-    requires { farm ≤ 10 }
     ensures { result ≡ drive_of farm }
 {
-    DRIVES[farm as usize]
+    DRIVES.get(usize::from(farm)).copied().unwrap_or(0)
 }
 
 // Whether a farm goes ahead of another. Equal drives go to the smaller number.
+// By the order and not by its preference, since the choice is defined by the order: a contract by the preference would have to say which orders it stands for.
 fn goes_ahead(order: u32, farm: u8, other: u8) -> bool
-    requires { (farm ≤ 10) × (other ≤ 10) }
     ensures { result ≡ preferred order farm other }
 {
     let here = drive(farm);
     let there = drive(other);
-    match order {
-        SMALLEST => farm < other,
+    match Preference::from(order) {
+        Preference::Smallest => farm < other,
         _ if here == there => farm < other,
-        FARTHEST => here > there,
-        _ => here < there,
+        Preference::Farthest => here > there,
+        Preference::Nearest => here < there,
     }
 }
 
 // Of a farm and the best before it, the one that goes ahead.
 fn better(order: u32, farm: u8, best: Option<u8>) -> Option<u8>
-    requires { (farm ≤ 10) × (IfSome best (λ k. k ≤ 10)) }
     ensures { result ≡ rather (preferred order) farm best }
 {
     match best {
         Some(other) if !goes_ahead(order, farm, other) => Some(other),
         _ => Some(farm),
     }
+}
+
+// Of the farms among these whose bit is set, the one that goes ahead of the others.
+fn best_of(order: u32, waiting: u32, farms: Range<u8>) -> Option<u8>
+    ensures { result ≡ fold (λ best i. rather (preferred order) i best) None (filter (has waiting) (range_with_len farms.start (farms.end - farms.start))) }
+{
+    farms
+        .filter(|farm| has_bit(waiting, *farm))
+        .fold(None, |best, farm| better(order, farm, best))
+}
+
+// The first of the tankers among these whose bit is set.
+fn first_of(free: u32, mut tankers: Range<u8>) -> Option<u8>
+    ensures { result ≡ find (has free) (range_with_len tankers.start (tankers.end - tankers.start)) }
+{
+    tankers.find(|tanker| has_bit(free, *tanker))
 }
 
 impl Collection {
@@ -50,13 +68,7 @@ impl Collection {
         ensures smallest { order ≡ 2 → Chosen Smallest waiting self.now.farms result }
         ensures nearest { (order ≢ 1) → (order ≢ 2) → Chosen Nearest waiting self.now.farms result }
     {
-        let mut best = None;
-        for farm in 1..self.farms + 1 {
-            if has_bit(waiting, farm) {
-                best = better(order, farm, best);
-            }
-        }
-        best
+        best_of(order, waiting, 1..self.farms + 1)
     }
 
     // The smallest-numbered free tanker, where the bits of a word are the free tankers.
@@ -64,11 +76,6 @@ impl Collection {
         ensures value { result ≡ free_tanker_of free self.now.tankers }
         ensures smallest { Chosen Smallest free self.now.tankers result }
     {
-        for tanker in 1..self.tankers + 1 {
-            if has_bit(free, tanker) {
-                return Some(tanker);
-            }
-        }
-        None
+        first_of(free, 1..self.tankers + 1)
     }
 }

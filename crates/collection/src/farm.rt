@@ -1,9 +1,10 @@
-// A farm keeps its milk until a tanker pumps it, and announces it to the dairy.
+// A farm keeps its milk until a tanker pumps it, and announces it to the dairy. Word 1 is 1 once it has: words are numbers by the rule.
 ghost use Rattle.std.specs.Prelude.{◌≡◌};
 ghost use Rattle.collection.specs.Farm.{announced, filled, pumped, farm_reaction};
+ghost use Rattle.collection.specs.Replies.{reacted};
 
 use super::reaction::ignore;
-use super::{Collection, DAIRY, LOADED, MILKED, PUMP, READY};
+use super::{Collection, DAIRY, Kind};
 use model::{Arrival, Sends, Sent, Words};
 
 // The litres that a tanker holds.
@@ -15,14 +16,13 @@ fn announce() -> Sent
     Sent {
         receiver: DAIRY,
         delay: 1,
-        kind: READY,
+        kind: Kind::Ready.into(),
         data: 0,
     }
 }
 
 fn fill(words: &mut Words, arrival: Arrival) -> Sends
-    ensures words { words.new ≡ (filled words.old arrival).words }
-    ensures sends { result ≡ (filled words.old arrival).sends }
+    ensures { reacted words.new result ≡ filled words.old arrival }
 {
     words[0] = words[0].saturating_add(arrival.data);
     if words[1] != 0 {
@@ -33,14 +33,13 @@ fn fill(words: &mut Words, arrival: Arrival) -> Sends
 }
 
 fn pump(words: &mut Words, tanker: u8) -> Sends
-    ensures words { words.new ≡ (pumped words.old tanker).words }
-    ensures sends { result ≡ (pumped words.old tanker).sends }
+    ensures { reacted words.new result ≡ pumped words.old tanker }
 {
     let load = words[0].min(TANK);
     let loaded = Sent {
         receiver: tanker,
         delay: 1 + load / 10,
-        kind: LOADED,
+        kind: Kind::Loaded.into(),
         data: load,
     };
     words[0] -= load;
@@ -54,12 +53,11 @@ fn pump(words: &mut Words, tanker: u8) -> Sends
 
 impl Collection {
     pub(super) fn at_farm(&self, words: &mut Words, arrival: Arrival) -> Sends
-        ensures words { words.new ≡ (farm_reaction self.now.farms self.now.tankers words.old arrival).words }
-        ensures sends { result ≡ (farm_reaction self.now.farms self.now.tankers words.old arrival).sends }
+        ensures { reacted words.new result ≡ farm_reaction self.now.farms self.now.tankers words.old arrival }
     {
-        match arrival.kind {
-            MILKED => fill(words, arrival),
-            PUMP if self.is_tanker(arrival.sender) => pump(words, arrival.sender),
+        match Kind::try_from(arrival.kind) {
+            Ok(Kind::Milked) => fill(words, arrival),
+            Ok(Kind::Pump) if self.is_tanker(arrival.sender) => pump(words, arrival.sender),
             _ => ignore(words, arrival),
         }
     }

@@ -12,33 +12,16 @@ mod bits;
 mod choice;
 mod dairy;
 mod farm;
+mod kind;
 mod places;
+mod preference;
 mod reaction;
 mod tanker;
 #[cfg(test)]
 mod tests;
 
-// The kinds of message.
-pub const MILKED: u8 = 0;
-
-pub const READY: u8 = 1;
-
-pub const FREE: u8 = 2;
-
-pub const GO: u8 = 3;
-
-pub const PUMP: u8 = 4;
-
-pub const LOADED: u8 = 5;
-
-pub const UNLOAD: u8 = 6;
-
-pub const EMPTIED: u8 = 7;
-
-// The orders at the dairy that do not choose the nearest farm, as all others do.
-pub const FARTHEST: u32 = 1;
-
-pub const SMALLEST: u32 = 2;
+pub use kind::{Kind, UnknownKind};
+pub use preference::Preference;
 
 // The dairy's place. Farms follow it, and tankers follow them.
 pub const DAIRY: u8 = 0;

@@ -11,7 +11,7 @@ impl Collection {
         1 <= place && place <= u32::from(self.farms)
     }
 
-    pub(super) fn is_tanker(&self, place: u8) -> bool
+    pub fn is_tanker(&self, place: u8) -> bool
         ensures { result ≡ is_tanker_place self.now.farms self.now.tankers place }
     {
         self.farms < place && place <= self.farms + self.tankers

@@ -1,19 +1,20 @@
 // What the places of a collection day do with messages.
 ghost use Rattle.std.specs.Prelude.{◌≡◌};
-ghost use Rattle.collection.specs.Replies.{ignored};
+ghost use Rattle.collection.specs.Replies.{ignored, reacted};
 ghost use Rattle.collection.specs.Rules.{meaning_of};
-ghost use Rattle.collection.specs.Reactions.{react_kept};
-ghost use Rattle.std.proofs.Common.{rules};
+ghost use Rattle.collection.specs.Reactions.{law_kept};
 
-use super::{Collection, DAIRY, LOADED, MILKED, UNLOAD};
+use super::{Collection, DAIRY, Kind};
 use model::{Arrival, Model as DayModel, Sends, Words};
 
 // What any place does with a message that asks nothing of it: litres are kept apart in word 7.
 pub(super) fn ignore(words: &mut Words, arrival: Arrival) -> Sends
-    ensures words { words.new ≡ (ignored words.old arrival).words }
-    ensures sends { result ≡ (ignored words.old arrival).sends }
+    ensures { reacted words.new result ≡ ignored words.old arrival }
 {
-    if matches!(arrival.kind, MILKED | LOADED | UNLOAD) {
+    if matches!(
+        Kind::try_from(arrival.kind),
+        Ok(Kind::Milked | Kind::Loaded | Kind::Unload)
+    ) {
         words[7] = words[7].saturating_add(arrival.data);
     }
     Sends::Nothing
@@ -22,11 +23,7 @@ pub(super) fn ignore(words: &mut Words, arrival: Arrival) -> Sends
 impl DayModel for Collection {
     ghost meaning = { λ m. meaning_of m.farms m.tankers };
 
-    ghost counted = { Prim.search rules };
-
-    ghost begun = { Prim.search rules };
-
-    ghost lawful = { λ m place order words a. react_kept m.farms m.tankers m.limits.1 place order words a };
+    ghost law = { λ m. law_kept m.farms m.tankers m.limits };
 
     fn places(&self) -> u8 {
         1 + self.farms + self.tankers

@@ -14,20 +14,20 @@ struct Case {
     sends: Sends,
 }
 
-fn arrival(time: u32, sender: u8, kind: u8, data: u32) -> Arrival {
+fn arrival(time: u32, sender: u8, kind: Kind, data: u32) -> Arrival {
     Arrival {
         time,
         sender,
-        kind,
+        kind: kind.into(),
         data,
     }
 }
 
-fn sent(receiver: u8, delay: u32, kind: u8, data: u32) -> Sends {
+fn sent(receiver: u8, delay: u32, kind: Kind, data: u32) -> Sends {
     Sends::One(Sent {
         receiver,
         delay,
-        kind,
+        kind: kind.into(),
         data,
     })
 }
@@ -52,70 +52,70 @@ fn the_dairy_chooses_and_unloads(rt: HostRuntime) -> Result<(), Fail> {
                 place: 0,
                 order: 0,
                 words: [2, 6, 0, 0, 0, 0, 0, 0],
-                arrival: arrival(7, 3, READY, 0),
+                arrival: arrival(7, 3, Kind::Ready, 0),
                 after: [8, 4, 0, 0, 0, 0, 0, 0],
-                sends: sent(4, 1, GO, 1),
+                sends: sent(4, 1, Kind::Go, 1),
             },
             // and order 1 takes 3
             Case {
                 place: 0,
-                order: FARTHEST,
+                order: Preference::Farthest.into(),
                 words: [2, 6, 0, 0, 0, 0, 0, 0],
-                arrival: arrival(7, 3, READY, 0),
+                arrival: arrival(7, 3, Kind::Ready, 0),
                 after: [2, 4, 0, 0, 0, 0, 0, 0],
-                sends: sent(4, 1, GO, 3),
+                sends: sent(4, 1, Kind::Go, 3),
             },
             // farms 2 and 3 wait: order 0 takes 2 as tanker 2 becomes free
             Case {
                 place: 0,
                 order: 0,
                 words: [12, 0, 0, 0, 0, 0, 0, 0],
-                arrival: arrival(7, 5, FREE, 0),
+                arrival: arrival(7, 5, Kind::Free, 0),
                 after: [8, 0, 0, 0, 0, 0, 0, 0],
-                sends: sent(5, 1, GO, 2),
+                sends: sent(5, 1, Kind::Go, 2),
             },
             // and so does order 1
             Case {
                 place: 0,
-                order: FARTHEST,
+                order: Preference::Farthest.into(),
                 words: [4, 6, 0, 0, 0, 0, 0, 0],
-                arrival: arrival(7, 3, READY, 0),
+                arrival: arrival(7, 3, Kind::Ready, 0),
                 after: [8, 4, 0, 0, 0, 0, 0, 0],
-                sends: sent(4, 1, GO, 2),
+                sends: sent(4, 1, Kind::Go, 2),
             },
             // unloading 1,000 at 1903
             Case {
                 place: 0,
                 order: 0,
                 words: [0, 0, 0, 0, 0, 0, 0, 0],
-                arrival: arrival(1903, 4, UNLOAD, 1000),
+                arrival: arrival(1903, 4, Kind::Unload, 1000),
                 after: [0, 0, 2013, 1000, 0, 0, 0, 0],
-                sends: sent(4, 110, EMPTIED, 0),
+                sends: sent(4, 110, Kind::Emptied, 0),
             },
             // behind another that ends at 2000
             Case {
                 place: 0,
                 order: 0,
                 words: [0, 0, 2000, 0, 0, 0, 0, 0],
-                arrival: arrival(1903, 4, UNLOAD, 1000),
+                arrival: arrival(1903, 4, Kind::Unload, 1000),
                 after: [0, 0, 2110, 1000, 0, 0, 0, 0],
-                sends: sent(4, 207, EMPTIED, 0),
+                sends: sent(4, 207, Kind::Emptied, 0),
             },
             // the bay's end and the litres stand at the largest word, and the delay at a day
             Case {
                 place: 0,
                 order: 0,
                 words: [0, 0, 4294967290, 4294967000, 0, 0, 0, 0],
-                arrival: arrival(1903, 4, UNLOAD, 1000),
+                arrival: arrival(1903, 4, Kind::Unload, 1000),
                 after: [0, 0, 4294967295, 4294967295, 0, 0, 0, 0],
-                sends: sent(4, 86400, EMPTIED, 0),
+                sends: sent(4, 86400, Kind::Emptied, 0),
             },
             // a farm does not unload: its litres are kept apart
             Case {
                 place: 0,
                 order: 0,
                 words: [0, 6, 0, 0, 0, 0, 0, 0],
-                arrival: arrival(7, 3, UNLOAD, 50),
+                arrival: arrival(7, 3, Kind::Unload, 50),
                 after: [0, 6, 0, 0, 0, 0, 0, 50],
                 sends: Sends::Nothing,
             },
@@ -128,13 +128,13 @@ fn farms_and_tankers_answer(rt: HostRuntime) -> Result<(), Fail> {
     let loaded = Sent {
         receiver: 4,
         delay: 2001,
-        kind: LOADED,
+        kind: Kind::Loaded.into(),
         data: 20000,
     };
     let ready = Sent {
         receiver: DAIRY,
         delay: 1,
-        kind: READY,
+        kind: Kind::Ready.into(),
         data: 0,
     };
     all_react(
@@ -145,7 +145,7 @@ fn farms_and_tankers_answer(rt: HostRuntime) -> Result<(), Fail> {
                 place: 2,
                 order: 0,
                 words: [25000, 1, 0, 0, 0, 0, 0, 0],
-                arrival: arrival(7, 4, PUMP, 0),
+                arrival: arrival(7, 4, Kind::Pump, 0),
                 after: [5000, 1, 0, 0, 0, 0, 0, 0],
                 sends: Sends::Two(loaded, ready),
             },
@@ -154,7 +154,7 @@ fn farms_and_tankers_answer(rt: HostRuntime) -> Result<(), Fail> {
                 place: 2,
                 order: 0,
                 words: [0, 0, 0, 0, 0, 0, 0, 0],
-                arrival: arrival(7, 255, MILKED, 0),
+                arrival: arrival(7, 255, Kind::Milked, 0),
                 after: [0, 1, 0, 0, 0, 0, 0, 0],
                 sends: Sends::One(ready),
             },
@@ -163,7 +163,7 @@ fn farms_and_tankers_answer(rt: HostRuntime) -> Result<(), Fail> {
                 place: 2,
                 order: 0,
                 words: [500, 1, 0, 0, 0, 0, 0, 0],
-                arrival: arrival(7, 0, PUMP, 9),
+                arrival: arrival(7, 0, Kind::Pump, 9),
                 after: [500, 1, 0, 0, 0, 0, 0, 0],
                 sends: Sends::Nothing,
             },
@@ -172,16 +172,16 @@ fn farms_and_tankers_answer(rt: HostRuntime) -> Result<(), Fail> {
                 place: 4,
                 order: 0,
                 words: [0, 0, 0, 0, 0, 0, 0, 0],
-                arrival: arrival(7, 0, GO, 3),
+                arrival: arrival(7, 0, Kind::Go, 3),
                 after: [1, 3, 0, 0, 0, 0, 0, 0],
-                sends: sent(3, 900, PUMP, 0),
+                sends: sent(3, 900, Kind::Pump, 0),
             },
             // there is no farm 4
             Case {
                 place: 4,
                 order: 0,
                 words: [0, 0, 0, 0, 0, 0, 0, 0],
-                arrival: arrival(7, 0, GO, 4),
+                arrival: arrival(7, 0, Kind::Go, 4),
                 after: [0, 0, 0, 0, 0, 0, 0, 0],
                 sends: Sends::Nothing,
             },
@@ -190,7 +190,7 @@ fn farms_and_tankers_answer(rt: HostRuntime) -> Result<(), Fail> {
                 place: 4,
                 order: 0,
                 words: [1, 3, 0, 0, 0, 0, 0, 4294967290],
-                arrival: arrival(7, 2, LOADED, 500),
+                arrival: arrival(7, 2, Kind::Loaded, 500),
                 after: [1, 3, 0, 0, 0, 0, 0, 4294967295],
                 sends: Sends::Nothing,
             },
@@ -199,7 +199,7 @@ fn farms_and_tankers_answer(rt: HostRuntime) -> Result<(), Fail> {
                 place: 6,
                 order: 0,
                 words: [1, 2, 3, 4, 5, 6, 7, 8],
-                arrival: arrival(7, 255, MILKED, 500),
+                arrival: arrival(7, 255, Kind::Milked, 500),
                 after: [1, 2, 3, 4, 5, 6, 7, 8],
                 sends: Sends::Nothing,
             },

@@ -1,18 +1,24 @@
--- Each turn adds one tanker's bit.
-use Rattle.std.proofs.Common.{◌≡◌, ◌-◌, sym, ap, ◌∙◌, arith}
+-- The fold sets one tanker's bit after the other.
+use Rattle.std.proofs.Common.{◌≡◌, ℕ, zero, suc, ◌+◌, [], ◌∷◌, fold, refl, ap, ◌∙◌, rules, arith}
+use Rattle.std.specs.List.{range_with_len}
+use Rattle.std.proofs.lemmas.Iterator.{YieldsList-from_range}
+use Rattle.std.proofs.lemmas.Iterator.Consumers.{fold_from_yields_List}
+use Rattle.std.proofs.lemmas.List.Sums.{fold-append}
 use Rattle.collection.specs.Bits.{has, with}
 use Rattle.collection.specs.Dairy.{all_free_word}
-use Rattle.collection.proofs.Masks.{all_free_more, has_all_free}
+use Rattle.collection.specs.Picking.{range_more}
+use Rattle.collection.proofs.Masks.{has_all_free}
 use Rattle.collection.proofs.Collection.all_free.Goals as goal
 
-pub loop-tanker-preserved : goal.loop-tanker-preserved
-loop-tanker-preserved c =
-    let j = c.loop-tanker.tanker in
-    c.with_bit-free.ensures.value ∙ ap (λ x. with x j) c.loop-tanker.invariant ∙ sym (all_free_more j (omega arith))
+folded : (t : ℕ) → fold with 0 (range_with_len 1 t) ≡ all_free_word t
+folded zero = refl
+folded (suc t) =
+    ap (fold with 0) (range_more 1 t) ∙ fold-append with 0 (range_with_len 1 t) ((1 + t) ∷ [])
+    ∙ ap (λ w. with w (1 + t)) (folded t) ∙ ap (with (all_free_word t)) (let e : 1 + t ≡ suc t = omega arith in e)
 
 pub returns : goal.returns
 returns c =
     let t = c.args.self.now.tankers in
-    let last : c.loop-tanker.tanker - 1 ≡ t = omega arith in
-    let is : c.loop-tanker.free ≡ all_free_word t = c.loop-tanker.invariant ∙ ap all_free_word last in
+    let is : c.fold.result ≡ all_free_word t =
+    fold_from_yields_List _ with 0 c.fold.result c.fold.ensures.ran (YieldsList-from_range 1 (t + 1) t refl (omega arith)) (λ a x b q k. search rules) ∙ folded t in
     record { value = is; bits = λ k. ap (λ x. has x k) is ∙ has_all_free t k }
