@@ -1,5 +1,5 @@
 -- What PHOLD with p places means. A place's words: 0 the number last drawn, 1 how often it passed a message on.
-use Rattle.std.specs.Prelude.{ℕ, ◌+◌, ◌-◌, ◌*◌, ◌%◌, ◌^◌, min, Bool, cond, ◌&&◌, List, [], ◌∷◌, nat_le, nat_lt, slice_index, slice_set}
+use Rattle.std.specs.Prelude.{ℕ, ◌+◌, ◌-◌, ◌*◌, ◌%◌, ◌^◌, min, Bool, if◌then◌else◌, ◌&&◌, List, [], ◌∷◌, nat_le, nat_lt, slice_index, slice_set}
 use Rattle.model.specs.declared.Arrival.{Arrival}
 use Rattle.model.specs.declared.Sent.{Sent}
 use Rattle.model.specs.declared.Sends.TheVariants.{Nothing, One}
@@ -17,7 +17,7 @@ stream_of r place = 32 * r + place
 
 -- a place begins where its stream does, from the seed; what is none of the places begins at 0
 abbrev pub start_of : ℕ → ℕ → ℕ → ℕ → List ℕ
-start_of p seed r place = cond (nat_lt place p) (times_of seed (multiplier_of (stream_of r place))) 0 ∷ 0 ∷ 0 ∷ 0 ∷ 0 ∷ 0 ∷ 0 ∷ 0 ∷ []
+start_of p seed r place = (if nat_lt place p then times_of seed (multiplier_of (stream_of r place)) else 0) ∷ 0 ∷ 0 ∷ 0 ∷ 0 ∷ 0 ∷ 0 ∷ 0 ∷ []
 
 -- the first draw at a place, from its word 0
 abbrev pub first_draw : List ℕ → ℕ
@@ -51,9 +51,8 @@ passed_on p order ws load = record {
 -- every place passes on whatever reaches it; what is none of the places does nothing
 abbrev pub react_of : ℕ → ℕ → ℕ → List ℕ → Arrival → Reaction
 react_of p place order ws a =
-    cond (nat_lt place p)
-    (record { words = words_after ws; sends = One (passed_on p order ws a.«data») })
-    (record { words = ws; sends = Nothing })
+    if nat_lt place p then record { words = words_after ws; sends = One (passed_on p order ws a.«data») }
+    else record { words = ws; sends = Nothing }
 
 -- the whole of it
 abbrev pub meaning_of : ℕ → ℕ → ℕ → Meaning

@@ -5,8 +5,7 @@ ghost use Rattle.std.specs.Prelude.{◌≡◌, ℕ, ◌≤◌, if◌then◌else�
 ghost use Rattle.std.specs.Result.{result_map_both};
 ghost use Rattle.model.specs.declared.ModelFault.TheVariants.{Limits};
 ghost use Rattle.phold.specs.Rules.{allowed, receiver_of, delay_of, meaning_of};
-ghost use Rattle.phold.specs.Passing.{react_lawful};
-ghost use Rattle.std.proofs.Common.{rules};
+ghost use Rattle.phold.specs.Passing.{law_kept};
 
 use model::{Arrival, Model as DayModel, ModelFault, Sends, Sent, Words};
 use streams::{MODULUS, draw, multiplier, times};
@@ -17,7 +16,7 @@ mod tests;
 // The most places, and so the streams that a replication has for itself.
 const MOST_PLACES: u8 = 32;
 
-// The kind of every message that is passed on.
+// The kind of every message that is passed on. A number and no enum: places react to any kind alike, so there is nothing to tell apart.
 pub const PASSED_ON: u8 = 0;
 
 // So many places, whose streams follow from a seed and the number of a replication.
@@ -62,11 +61,7 @@ fn delay(order: u32, drawn: u32) -> u32
 impl DayModel for Phold {
     ghost meaning = { λ m. meaning_of m.places m.seed m.replication };
 
-    ghost counted = { Prim.search rules };
-
-    ghost begun = { Prim.search rules };
-
-    ghost lawful = { λ m place order words a. react_lawful m.places place order words a m.limits.0 };
+    ghost law = { λ m. law_kept m.places m.seed m.replication m.limits.0 m.limits.1 };
 
     fn places(&self) -> u8 {
         self.places
