@@ -53,6 +53,6 @@ pub sequence_distinct : (s n : ℕ) (ms : List Message) → InSequence s n ms �
 sequence_distinct s n [] h = tt
 sequence_distinct s n (m ∷ ms) h = (
   All-weaker (Between s (suc n) (suc n + length ms)) (λ x. key_of m ≡ key_of x → ⊥)
-      (λ x b k. let l = b.least in let e = h.1 in let q : m.number ≡ x.number = ap (λ (j : Key). j.number) k in let z : ⊥ = omega arith in z) ms (sequence_between s (suc n) ms h.2),
+      (λ x b k. let l = b.least in let e = h.1 in let q : m.number ≡ x.number = ap (λ (j : Key). j.number) k in omega arith) ms (sequence_between s (suc n) ms h.2),
   sequence_distinct s (suc n) ms h.2,
 )

@@ -1,12 +1,11 @@
 -- What holds of each message or place of a list, by places and by elements.
-use Rattle.std.proofs.Common.{◌≡◌, ℕ, zero, suc, ◌<◌, List, [], ◌∷◌, length, get_or, set, Some, None, Option, sym, ap, ◌∙◌, subst, ⊎_elim, arith, get_or-set_other, get_or-set_same}
+use Rattle.std.proofs.Common.{◌≡◌, ℕ, zero, suc, List, [], ◌∷◌, get_or, sym, subst}
 use Rattle.std.specs.List.{AllByRecursion}
 use Rattle.std.proofs.ByRecursion.{All-from_get_or}
-use Rattle.std.proofs.lemmas.Bool.{cases_eq}
-use Rattle.event.specs.Lists.{first}
-
-pub none_some : {X : Type 0} (x : X) → ◌≡◌ {A = Option X} None (Some x) → ⊥
-none_some x e = let z : ◌≡◌ {A = ℕ} 0 1 = cc in omega arith
+use Rattle.event.specs.declared.Message.{Message}
+use Rattle.event.specs.Keys.{blank, key_of}
+use Rattle.event.specs.Lists.{insert}
+use Rattle.event.proofs.Insertion.{all_insert}
 
 module _ {X : Type 0} (P : X → Type 0) (d : X) where
   pub all_by_places : (xs : List X) → ((i : ℕ) → P (get_or xs i d)) → AllByRecursion P xs
@@ -17,13 +16,6 @@ module _ {X : Type 0} (P : X → Type 0) (d : X) where
   places_by_all (x ∷ xs) p h zero = h.0
   places_by_all (x ∷ xs) p h (suc i) = places_by_all xs p h.1 i
 
-  -- one place is written
-  pub places_set : (xs : List X) (k : ℕ) (x : X) → k < length xs → P x → ((i : ℕ) → P (get_or xs i d)) → (i : ℕ) → P (get_or (set xs k x) i d)
-  places_set xs k x l p h i =
-      ⊎_elim (λ (e : i ≡ k). subst P (sym (ap (λ (j : ℕ). get_or (set xs k x) j d) e ∙ get_or-set_same xs k x d l)) p)
-      (λ (n : i ≡ k → ⊥). subst P (sym (get_or-set_other xs k i x d n)) (h i)) (cases_eq i k)
-
-  -- the first of a list of which each place has P
-  pub place_first : (xs : List X) (x : X) → first xs ≡ Some x → ((i : ℕ) → P (get_or xs i d)) → P x
-  place_first [] x e h = absurd (none_some x e)
-  place_first (y ∷ xs) x e h = let q : y ≡ x = cc in subst P q (h 0)
+-- one message is inserted
+pub places_insert : (P : Message → Type 0) (m : Message) (xs xs' : List Message) → xs' ≡ insert key_of m xs → P blank → P m → ((i : ℕ) → P (get_or xs i blank)) → (i : ℕ) → P (get_or xs' i blank)
+places_insert P m xs xs' e z p h = places_by_all P blank xs' z (subst (AllByRecursion P) (sym e) (all_insert key_of P m xs p (all_by_places P blank xs h)))

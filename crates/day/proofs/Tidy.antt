@@ -1,8 +1,7 @@
 -- Every day run alone is tidy.
-use Rattle.std.proofs.Common.{◌≡◌, ℕ, suc, ◌+◌, ◌<◌, ◌≤◌, true, eqb, leb, List, [], ◌∷◌, ◌++◌, length, Some, None, Option, sym, refl, ap, ◌∙◌, subst, append_assoc, arith}
+use Rattle.std.proofs.Common.{◌≡◌, ℕ, suc, ◌+◌, ◌<◌, ◌≤◌, true, leb, List, [], ◌∷◌, ◌++◌, length, Some, None, Option, sym, refl, ap, subst, append_assoc, arith}
 use Rattle.std.specs.List.{AllByRecursion}
 use Rattle.std.proofs.ByRecursion.{All-weaker, all_kept_by, All-push}
-use Rattle.std.proofs.lemmas.Bool.{cond_both, cond-true, eq-eqb, eqb-true}
 use Rattle.event.specs.declared.Key.{Key}
 use Rattle.event.specs.declared.Message.{Message}
 use Rattle.event.specs.declared.Start.{Start}
@@ -12,13 +11,11 @@ use Rattle.event.specs.Starts.{numbered}
 use Rattle.event.proofs.Insertion.{all_insert_all, rising_insert_all, rising_front, distinct_kept_by}
 use Rattle.event.proofs.Orders.{chain, sooner}
 use Rattle.model.specs.declared.Sent.{Sent}
-use Rattle.model.specs.Meaning.{Meaning, Law, Within, listed}
-use Rattle.day.specs.declared.place.Place.{Place}
-use Rattle.day.specs.Day.{Day, arrival_of, stamped, within, reaction, place_after, event_at, event, ordered, ordered_place, starting}
+use Rattle.model.specs.Meaning.{Meaning, Law, Within, arrival_of, listed}
+use Rattle.day.specs.Day.{Day, stamped, within, reaction, event_at, event, ordered, starting}
 use Rattle.day.specs.Alone.{Deed, run, give, done}
 use Rattle.day.specs.Tidy.{Tidy}
 use Rattle.day.proofs.Events.{all_rest, stamped_receivers}
-use Rattle.day.proofs.Places.{none_some}
 use Rattle.day.proofs.Numbers.{InSequence, Between, length_stamped, stamped_sequence, starts_sequence, numbered_all, sequence_between, sequence_distinct}
 
 -- what is stamped comes later
@@ -27,8 +24,8 @@ stamped_later n now s from [] h = tt
 stamped_later n now s from (x ∷ ss) h = let a = h.0.least in (omega arith, stamped_later n now s (suc from) ss h.1)
 
 pub first_rest : (xs : List Message) (m : Message) → first xs ≡ Some m → xs ≡ m ∷ rest xs
-first_rest [] m e = absurd (none_some m e)
-first_rest (x ∷ xs) m e = let q : x ≡ m = cc in ap (λ (y : Message). y ∷ xs) q
+first_rest [] m e = grind arith
+first_rest (x ∷ xs) m e = grind arith
 
 module _ (M : Meaning) (law : Law M) (end : ℕ) (d : Day) (t : Tidy M d) (m : Message) (e : first d.waiting ≡ Some m) where
   abbrev sends : List Sent
@@ -71,17 +68,14 @@ module _ (M : Meaning) (law : Law M) (end : ℕ) (d : Day) (t : Tidy M d) (m : M
     where
       apart : (y : Message) → (y.sender < M.places → y.number < (d.place y.sender).sent) → key_of x ≡ key_of y → ⊥
       apart y u k =
-          let s : y.sender ≡ m.receiver = sym (ap (λ (j : Key). j.sender) k) ∙ b.sender in
-          let n : x.number ≡ y.number = ap (λ (j : Key). j.number) k in
+          let sender : x.sender ≡ y.sender = ap (λ (j : Key). j.sender) k in
+          let number : x.number ≡ y.number = ap (λ (j : Key). j.number) k in
+          let from = b.sender in
           let low = b.least in
-          let under : y.number < (d.place m.receiver).sent = subst (λ (q : ℕ). y.number < (d.place q).sent) s (u (subst (λ (q : ℕ). q < M.places) (sym s) inside)) in
-          let z : ⊥ = omega arith in
-          z
+          grind (arith, inside)
 
   grown : (q : ℕ) → (d.place q).sent ≤ ((event_at M end d (Some m)).place q).sent
-  grown q =
-      cond_both (eqb q m.receiver) (place_after M (d.place m.receiver) m) (d.place q) (λ p. (d.place q).sent ≤ p.sent)
-      (λ h. subst (λ (i : ℕ). (d.place i).sent ≤ (place_after M (d.place m.receiver) m).sent) (sym (eqb-true q m.receiver h)) (omega arith)) (λ _. omega arith)
+  grown q = grind arith
 
   pub tidy_at : Tidy M (event_at M end d (Some m))
   tidy_at = record {
@@ -103,9 +97,7 @@ module _ (M : Meaning) (law : Law M) (end : ℕ) (d : Day) (t : Tidy M d) (m : M
       Numbered x = x.sender < M.places → x.number < ((event_at M end d (Some m)).place x.sender).sent
 
       new : (x : Message) → Between m.receiver (d.place m.receiver).sent ((d.place m.receiver).sent + length sent) x → Numbered x
-      new x b i =
-          subst (λ (p : Place). x.number < p.sent) (sym (cond-true (eqb x.sender m.receiver) (place_after M (d.place m.receiver) m) (d.place x.sender) (eq-eqb x.sender m.receiver b.sender)))
-          (subst (λ (k : ℕ). x.number < (d.place m.receiver).sent + k) (length_stamped m.time m.receiver (d.place m.receiver).sent sends) b.most)
+      new x b i = let from = b.sender in let most = b.most in grind (arith, length_stamped m.time m.receiver (d.place m.receiver).sent sends)
 
 pub tidy_event : (M : Meaning) → Law M → (end : ℕ) (d : Day) → Tidy M d → Tidy M (event M end d)
 tidy_event M law end d t = go (first d.waiting) refl
@@ -123,15 +115,13 @@ tidy_order M d place value t = record {
 }
   where
     kept : (q : ℕ) → (d.place q).sent ≡ ((ordered d place value).place q).sent
-    kept q =
-        cond_both (eqb q place) (ordered_place (d.place place) value) (d.place q) (λ p. (d.place q).sent ≡ p.sent)
-        (λ h. ap (λ (i : ℕ). (d.place i).sent) (eqb-true q place h)) (λ _. refl)
+    kept q = grind arith
 
 pub tidy_starts : (M : Meaning) → Law M → (starts : List Start) → AllByRecursion (λ s. s.receiver < M.places) starts → Tidy M (starting M starts)
 tidy_starts M law starts h = record {
   rising = rising_insert_all key_of [] (numbered 0 starts) [] (every (numbered 0 starts)) (sequence_distinct 255 0 (numbered 0 starts) (starts_sequence 0 starts)) (every (numbered 0 starts)) tt;
   numbered = all_insert_all key_of (λ m. m.sender < M.places → m.number < 0) (numbered 0 starts) []
-      (All-weaker (Between 255 0 (0 + length (numbered 0 starts))) (λ m. m.sender < M.places → m.number < 0) (λ m b i. let a = law.most in let s = b.sender in absurd (let z : ⊥ = omega arith in z)) (numbered 0 starts)
+      (All-weaker (Between 255 0 (0 + length (numbered 0 starts))) (λ m. m.sender < M.places → m.number < 0) (λ m b i. let a = law.most in let s = b.sender in omega arith) (numbered 0 starts)
       (sequence_between 255 0 (numbered 0 starts) (starts_sequence 0 starts))) tt;
   received = all_insert_all key_of (λ m. m.receiver < M.places) (numbered 0 starts) [] (numbered_all (λ s. s.receiver < M.places) (λ m. m.receiver < M.places) (λ n s r. r) 0 starts h) tt;
 }

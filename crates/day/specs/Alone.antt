@@ -1,5 +1,5 @@
 -- The day run alone under a list of orders, and what any mixture of events and orders makes of a day.
-use Rattle.std.specs.Prelude.{◌≡◌, ℕ, zero, suc, ◌≤◌, cond, List, [], ◌∷◌, length, ◌==◌}
+use Rattle.std.specs.Prelude.{◌≡◌, ℕ, zero, suc, ◌≤◌, if◌then◌else◌, List, [], ◌∷◌, length, ◌==◌}
 use Rattle.std.specs.List.{AllByRecursion}
 use Rattle.event.specs.declared.Start.{Start}
 use Rattle.model.specs.Meaning.{Meaning}
@@ -14,7 +14,7 @@ pub record Order : Type 0 where
 -- the orders of position n, oldest first
 abbrev pub ordered_at : ℕ → List Order → Day → Day
 ordered_at n [] d = d
-ordered_at n (o ∷ os) d = ordered_at n os (cond (o.position == n) (ordered d o.place o.value) d)
+ordered_at n (o ∷ os) d = ordered_at n os (if o.position == n then ordered d o.place o.value else d)
 
 -- n events from the starting list on; once n have run, the orders of position n are set
 unfoldable pub alone : Meaning → ℕ → List Start → List Order → ℕ → Day

@@ -1,13 +1,12 @@
 -- The day run alone: one event after the other, the waiting message with the smallest key first.
-use Rattle.std.specs.Prelude.{ℕ, suc, ◌+◌, cond, List, [], ◌∷◌, ◌++◌, length, Some, None, filter, Option, ◌==◌, nat_le}
+use Rattle.std.specs.Prelude.{ℕ, suc, ◌+◌, if◌then◌else◌, List, [], ◌∷◌, ◌++◌, length, Some, None, filter, Option, ◌==◌, nat_le}
 use Rattle.event.specs.declared.Message.{Message}
 use Rattle.event.specs.declared.Start.{Start}
 use Rattle.event.specs.Keys.{key_of}
 use Rattle.event.specs.Lists.{insert_all, first, rest}
 use Rattle.event.specs.Starts.{numbered}
-use Rattle.model.specs.declared.Arrival.{Arrival}
 use Rattle.model.specs.declared.Sent.{Sent}
-use Rattle.model.specs.Meaning.{Meaning, Reaction, listed}
+use Rattle.model.specs.Meaning.{Meaning, Reaction, arrival_of, listed}
 use Rattle.day.specs.declared.place.Place.{Place}
 
 pub record Day : Type 0 where
@@ -17,10 +16,6 @@ pub record Day : Type 0 where
   pub waiting : List Message
   -- what has run, oldest first
   pub journal : List Message
-
--- what a place is told of a message
-abbrev pub arrival_of : Message → Arrival
-arrival_of m = record { time = m.time; sender = m.sender; kind = m.kind; «data» = m.«data» }
 
 -- what a place does with a message, under the order that stands there
 abbrev pub reaction : Meaning → Place → Message → Reaction
@@ -54,7 +49,7 @@ place_after M p m = record { words = (reaction M p m).words; order = p.order; se
 abbrev pub event_at : Meaning → ℕ → Day → Option Message → Day
 event_at M end d None = d
 event_at M end d (Some m) = record {
-  place = λ p. cond (p == m.receiver) (place_after M (d.place m.receiver) m) (d.place p);
+  place = λ p. if p == m.receiver then place_after M (d.place m.receiver) m else d.place p;
   waiting = insert_all key_of (posted_by M end (d.place m.receiver) m) (rest d.waiting);
   journal = d.journal ++ m ∷ [];
 }
@@ -69,7 +64,7 @@ ordered_place p value = record { words = p.words; order = value; sent = p.sent }
 -- an order stands at a place from now on
 abbrev pub ordered : Day → ℕ → ℕ → Day
 ordered d at value = record {
-  place = λ p. cond (p == at) (ordered_place (d.place at) value) (d.place p);
+  place = λ p. if p == at then ordered_place (d.place at) value else d.place p;
   waiting = d.waiting;
   journal = d.journal;
 }

@@ -1,5 +1,5 @@
--- The number, layer and position of each refusal of a day, and when each comes.
-use Rattle.std.specs.Prelude.{ℕ, suc, ◌+◌, ◌-◌, cond, List, [], ◌∷◌, Some, None, Option, nat_le, nat_lt}
+-- The number, layer and position of each refusal of a day, its words, and when each comes.
+use Rattle.std.specs.Prelude.{ℕ, suc, ◌+◌, ◌-◌, if◌then◌else◌, List, [], ◌∷◌, Some, None, Option, codes, nat_le, nat_lt}
 use Rattle.event.specs.declared.Start.{Start}
 use Rattle.refusal.specs.declared.Layer.TheVariants.{Calendar, Study}
 use Rattle.refusal.specs.declared.Refusal.{Refusal}
@@ -17,10 +17,22 @@ refusal_of Place = record { number = 11; layer = Study; position = 0 }
 refusal_of Entries = record { number = 14; layer = Study; position = 0 }
 refusal_of Entry = record { number = 16; layer = Study; position = 0 }
 
+-- why a day is refused
+abbrev pub words_of_fault : DayFault → List ℕ
+words_of_fault Memory = codes "there is no memory for the day"
+words_of_fault End = codes "the end of day is above 1000000"
+words_of_fault (StartPlace i) = codes "a starting message names no place"
+words_of_fault (StartTime i) = codes "a starting message is later than the end of day"
+words_of_fault (StartRoom i) = codes "there are more starting messages than the calendar holds"
+words_of_fault Room = codes "the calendar has no room for what the next event may send"
+words_of_fault Place = codes "there is no such place"
+words_of_fault Entries = codes "the journal is full"
+words_of_fault Entry = codes "there is no such entry"
+
 -- the starting message at position i
 abbrev pub start_fault_of : ℕ → ℕ → ℕ → ℕ → Start → Option DayFault
 start_fault_of places capacity end i s =
-    cond (nat_le places s.receiver) (Some (StartPlace i)) (cond (nat_lt end s.time) (Some (StartTime i)) (cond (nat_le capacity i) (Some (StartRoom i)) None))
+    if nat_le places s.receiver then Some (StartPlace i) else if nat_lt end s.time then Some (StartTime i) else if nat_le capacity i then Some (StartRoom i) else None
 
 -- the first that is there
 abbrev pub or_else : Option DayFault → Option DayFault → Option DayFault
@@ -34,8 +46,8 @@ starts_fault places capacity end i (s ∷ ss) = or_else (start_fault_of places c
 
 -- the end first, and then the messages
 abbrev pub load_fault_of : ℕ → ℕ → ℕ → List Start → Option DayFault
-load_fault_of places capacity end starts = cond (nat_lt 1000000 end) (Some End) (starts_fault places capacity end 0 starts)
+load_fault_of places capacity end starts = if nat_lt 1000000 end then Some End else starts_fault places capacity end 0 starts
 
 -- an event takes one of the waiting messages and asks room for two, and for one more entry
 abbrev pub event_fault_of : ℕ → ℕ → ℕ → Option DayFault
-event_fault_of capacity waiting entries = cond (nat_lt capacity (waiting - 1 + 2)) (Some Room) (cond (nat_lt 2048 (entries + 1)) (Some Entries) None)
+event_fault_of capacity waiting entries = if nat_lt capacity (waiting - 1 + 2) then Some Room else if nat_lt 2048 (entries + 1) then Some Entries else None

@@ -4,4 +4,5 @@ pub mod Blank
 pub mod Day
 pub mod Faults
 pub mod Held
+pub mod Runs
 pub mod Tidy

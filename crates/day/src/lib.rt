@@ -7,7 +7,9 @@ mod making;
 mod place;
 mod reading;
 mod running;
+mod telling;
+mod waiting;
 
-pub use fault::DayFault;
+pub use fault::{DayFault, Stop};
 pub use lone::LoneDay;
 pub use place::{Place, Ran};

@@ -1,5 +1,5 @@
 // A day that runs alone, and the room that it reserves.
-ghost use Rattle.std.specs.Prelude.{◌≡◌, ℕ, ◌*◌, ◌<◌, ◌≤◌, vec_len, vec_capacity, slice_index_or};
+ghost use Rattle.std.specs.Prelude.{ℕ, ◌*◌, ◌<◌, ◌≤◌, vec_len, vec_capacity, slice_index_or};
 ghost use Rattle.event.specs.Keys.{blank};
 ghost use Rattle.day.specs.Blank.{blank_place};
 
@@ -13,21 +13,28 @@ pub(crate) const CELLS: usize = 32;
 // The most entries that a journal has.
 pub(crate) const ENTRIES: usize = 2048;
 
+// The messages that wait, of which there is room for as many as the capacity says.
+#[derive(Drop)]
+pub(crate) struct Waiting {
+    pub(crate) capacity: u16,
+    pub(crate) end: u32,
+    // in the order of their keys; no map, which allocates at each insertion: a day allocates nothing once it is made
+    pub(crate) messages: Vec<Message>,
+    ghost room: { capacity ≤ vec_capacity messages },
+    ghost ended: { end ≤ 1000000 },
+    ghost timely: { (i : ℕ) → (slice_index_or messages.items i blank).time ≤ end },
+    ghost placed: { (i : ℕ) → (slice_index_or messages.items i blank).receiver < 32 },
+}
+
 // One day of a model: its places, what waits, and what has run.
+// That it is the day run alone, and tidy, stands in the contracts: a ghost field that cites the model's meaning would give every definition that names a LoneDay one more argument.
 #[derive(Drop)]
 pub struct LoneDay<M> {
     pub(crate) model: M,
-    pub(crate) capacity: u16,
-    pub(crate) end: u32,
-    pub(crate) cells: Vec<Place>,
-    // in the order of their keys
-    pub(crate) waiting: Vec<Message>,
+    pub(crate) cells: [Place; CELLS],
+    pub(crate) waiting: Waiting,
     pub(crate) journal: Vec<Message>,
-    ghost whole: { vec_len cells ≡ 32 },
-    ghost room: { (capacity ≤ vec_capacity waiting) × (2048 ≤ vec_capacity journal) },
-    ghost ended: { end ≤ 1000000 },
+    ghost room: { 2048 ≤ vec_capacity journal },
     ghost short: { vec_len journal ≤ 2048 },
-    ghost timely: { (i : ℕ) → (slice_index_or waiting.items i blank).time ≤ end },
-    ghost placed: { (i : ℕ) → (slice_index_or waiting.items i blank).receiver < 32 },
-    ghost counted: { (i : ℕ) → (slice_index_or cells.items i blank_place).sent ≤ 2 * vec_len journal },
+    ghost counted: { (i : ℕ) → (slice_index_or cells i blank_place).sent ≤ 2 * vec_len journal },
 }

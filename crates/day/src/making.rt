@@ -1,6 +1,7 @@
 // The making of a lone day from a starting list.
-ghost use Rattle.std.specs.Prelude.{◌≡◌, ℕ, ◌<◌, ◌≤◌, List, [], length, IfOk, None, vec_len, vec_capacity, MatchResult, slice_index_or};
+ghost use Rattle.std.specs.Prelude.{◌≡◌, ℕ, ◌<◌, ◌≤◌, List, [], length, IfOk, None, vec_capacity, MatchResult, slice_index_or};
 ghost use Rattle.std.specs.Option.{unwrap_or};
+ghost use Rattle.std.specs.Result.{result_err};
 ghost use Rattle.event.specs.Keys.{key_of};
 ghost use Rattle.event.specs.Lists.{insert_all};
 ghost use Rattle.event.specs.Starts.{numbered};
@@ -13,45 +14,54 @@ ghost use Rattle.day.specs.Held.{day_of};
 ghost use Rattle.day.specs.Tidy.{Tidy};
 
 use crate::fault::DayFault;
-use crate::lone::{CELLS, ENTRIES, LoneDay};
+use crate::lone::{CELLS, ENTRIES, LoneDay, Waiting};
 use crate::place::Place;
 use event::{Message, Start, insert_by_key};
 use model::Model;
 use std::alloc::{AllocError, Global};
+use std::array;
 
 // The latest end of day.
 const LATEST_END: u32 = 1_000_000;
 
-// Why the starting message at this position is refused, if it is.
-fn start_fault(places: u8, capacity: u16, end: u32, i: usize, s: &Start) -> Option<DayFault>
-    requires { i ≤ capacity }
-    ensures { result ≡ start_fault_of places capacity end i s.now }
-{
-    if s.receiver >= places {
-        return Some(DayFault::StartPlace(i as u32));
-    }
-    if s.time > end {
-        return Some(DayFault::StartTime(i as u32));
-    }
-    if i >= capacity as usize {
-        return Some(DayFault::StartRoom(i as u32));
-    }
-    None
+// What a starting list has to fit.
+#[derive(Clone, Copy)]
+struct Limits {
+    places: u8,
+    capacity: u16,
+    end: u32,
 }
 
-// Why a starting list is refused, if it is: the end first, and then each message in sequence.
-fn load_fault(places: u8, capacity: u16, end: u32, starts: &[Start]) -> Option<DayFault>
-    ensures { result ≡ load_fault_of places capacity end starts.now }
-{
-    if end > LATEST_END {
-        return Some(DayFault::End);
-    }
-    for (i, s) in starts.iter().enumerate() {
-        if let Some(fault) = start_fault(places, capacity, end, i, s) {
-            return Some(fault);
+impl Limits {
+    // Refuses a starting message that does not fit at its position.
+    fn check_start(self, i: usize, s: &Start) -> Result<(), DayFault>
+        requires { i ≤ self.capacity }
+        ensures { result_err result ≡ start_fault_of self.places self.capacity self.end i s.now }
+    {
+        if s.receiver >= self.places {
+            return Err(DayFault::StartPlace(i as u32));
         }
+        if s.time > self.end {
+            return Err(DayFault::StartTime(i as u32));
+        }
+        if i >= usize::from(self.capacity) {
+            return Err(DayFault::StartRoom(i as u32));
+        }
+        Ok(())
     }
-    None
+
+    // Refuses the end first, and then each message in sequence.
+    fn check(self, starts: &[Start]) -> Result<(), DayFault>
+        ensures { result_err result ≡ load_fault_of self.places self.capacity self.end starts.now }
+    {
+        if self.end > LATEST_END {
+            return Err(DayFault::End);
+        }
+        for (i, s) in starts.iter().enumerate() {
+            self.check_start(i, s)?;
+        }
+        Ok(())
+    }
 }
 
 // The starting list in the order of its keys, with room for as many messages as the capacity says.
@@ -59,7 +69,7 @@ fn starting_list(heap: Global, capacity: u16, starts: &[Start]) -> Result<Vec<Me
     requires { length starts.now ≤ capacity }
     ensures { IfOk result (λ v. (v.items ≡ insert_all key_of (numbered 0 starts.now) []) × (capacity ≤ vec_capacity v)) }
 {
-    let mut list = Vec::with_capacity(heap, capacity as usize)?;
+    let mut list = Vec::with_capacity(heap, usize::from(capacity))?;
     for (i, s) in starts.iter().enumerate() {
         let _ = insert_by_key(&mut list, s.message(i as u32));
     }
@@ -67,21 +77,45 @@ fn starting_list(heap: Global, capacity: u16, starts: &[Start]) -> Result<Vec<Me
 }
 
 // The cells of all places as the day begins.
-fn starting_cells<M: Model>(heap: Global, model: &M) -> Result<Vec<Place>, AllocError>
-    ensures { IfOk result (λ v. (vec_len v ≡ 32) × ((p : ℕ) → p < 32 → slice_index_or v.items p blank_place ≡ starting_place (M.meaning model.now) p)) }
+fn starting_cells<M: Model>(model: &M) -> [Place; CELLS]
+    ensures { (p : ℕ) → p < 32 → slice_index_or result p blank_place ≡ starting_place (M.meaning model.now) p }
 {
-    let mut cells = Vec::with_capacity(heap, CELLS)?;
-    for p in 0..32u8 {
-        cells.push_reserved(Place {
-            words: model.start(p),
-            order: 0,
-            sent: 0,
-        });
-    }
-    Ok(cells)
+    array::from_fn(|p| Place {
+        words: model.start(p as u8),
+        order: 0,
+        sent: 0,
+    })
 }
 
 impl<M: Model + Drop> LoneDay<M> {
+    // The day as it begins, where its starting list fits.
+    fn begin(
+        heap: Global,
+        model: M,
+        limits: Limits,
+        starts: &[Start],
+    ) -> Result<LoneDay<M>, AllocError>
+        requires places { limits.places ≡ (M.meaning model).places }
+        requires fits { load_fault_of limits.places limits.capacity limits.end starts.now ≡ None }
+        ensures day { IfOk result (λ d. day_of (M.meaning model) d ≡ starting (M.meaning model) starts.now) }
+        ensures kept { IfOk result (λ d. (d.model ≡ model) × (d.waiting.end ≡ limits.end) × (d.waiting.capacity ≡ limits.capacity)) }
+    {
+        let cells = starting_cells(&model);
+        let messages = starting_list(heap, limits.capacity, starts)?;
+        let waiting = Waiting {
+            capacity: limits.capacity,
+            end: limits.end,
+            messages,
+        };
+        let journal = Vec::with_capacity(heap, ENTRIES)?;
+        Ok(LoneDay {
+            model,
+            cells,
+            waiting,
+            journal,
+        })
+    }
+
     // Makes a day of the starting list, and reserves all the room that it will need.
     pub fn load(
         heap: Global,
@@ -92,23 +126,16 @@ impl<M: Model + Drop> LoneDay<M> {
     ) -> Result<LoneDay<M>, DayFault>
         ensures told { MatchResult result (λ _. load_fault_of (M.meaning model).places capacity end starts.now ≡ None) (λ f. f ≡ unwrap_or (load_fault_of (M.meaning model).places capacity end starts.now) Memory) }
         ensures day { IfOk result (λ d. day_of (M.meaning model) d ≡ starting (M.meaning model) starts.now) }
-        ensures kept { IfOk result (λ d. (d.model ≡ model) × (d.end ≡ end) × (d.capacity ≡ capacity)) }
+        ensures kept { IfOk result (λ d. (d.model ≡ model) × (d.waiting.end ≡ end) × (d.waiting.capacity ≡ capacity)) }
         ensures alone { IfOk result (λ d. (deeds : List Deed) → Alone (M.meaning model) end starts.now (given (M.meaning model) end deeds (day_of (M.meaning model) d)) (done (M.meaning model) end deeds (day_of (M.meaning model) d))) }
         ensures tidy { IfOk result (λ d. (deeds : List Deed) → Tidy (M.meaning model) (done (M.meaning model) end deeds (day_of (M.meaning model) d))) }
     {
-        if let Some(fault) = load_fault(model.places(), capacity, end, starts) {
-            return Err(fault);
-        }
-        let cells = starting_cells(heap, &model)?;
-        let waiting = starting_list(heap, capacity, starts)?;
-        let journal = Vec::with_capacity(heap, ENTRIES)?;
-        Ok(LoneDay {
-            model,
+        let limits = Limits {
+            places: model.places(),
             capacity,
             end,
-            cells,
-            waiting,
-            journal,
-        })
+        };
+        limits.check(starts)?;
+        Ok(LoneDay::begin(heap, model, limits, starts)?)
     }
 }
