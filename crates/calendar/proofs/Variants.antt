@@ -10,7 +10,7 @@ use Rattle.group.specs.Groups.{has, with, without}
 use Rattle.group.proofs.Members.{has_above, has_with, has_without, has_not_empty, with_above}
 use Rattle.calendar.specs.declared.Held.{Held}
 use Rattle.calendar.specs.Calls.{key_of_held, waiting, joins, spread, leaves, wanted}
-use Rattle.calendar.specs.Laws.{message_of, messages_of, PutLaws, TakeLaws, SpreadLaws, EraseLaws}
+use Rattle.calendar.specs.Laws.{message_of, messages_of, PutLaws, SpreadLaws, EraseLaws}
 
 -- a map that keeps keys keeps the order
 map_sorted : (f : Held → Held) → ((x : Held) → key_of_held (f x) ≡ key_of_held x) → (xs : List Held) → Sorted key_of_held xs → Sorted key_of_held (map f xs)
@@ -43,13 +43,6 @@ put_laws h xs = record {
     into : (v : ℕ) (b : Bool) → map message_of (cond b (insert key_of_held h (waiting v xs)) (waiting v xs)) ≡ cond b (insert key_of h.message (messages_of v xs)) (messages_of v xs)
     into v true = map_insert key_of_held key_of message_of (λ x. refl) h (waiting v xs)
     into v false = refl
-
-pub take_laws : (x : Held) (xs : List Held) → TakeLaws x xs
-take_laws x xs = record { sorted = λ s. s.1; messages = λ v. out v (has x.group v) }
-  where
-    out : (v : ℕ) (b : Bool) → map message_of (cond b (x ∷ waiting v xs) (waiting v xs)) ≡ cond b (x.message ∷ messages_of v xs) (messages_of v xs)
-    out v true = refl
-    out v false = refl
 
 -- a map that keeps messages, and decides by its own test who waits for them
 messages_by : (f : Held → Held) (p q : Held → Bool) → ((x : Held) → (f x).message ≡ x.message) → (xs : List Held) → AllByRecursion (λ x. p (f x) ≡ q x) xs

@@ -1,5 +1,5 @@
 -- What the calls do to the messages of one variant, and to the groups.
-use Rattle.std.specs.Prelude.{◌≡◌, ℕ, true, false, cond, List, [], ◌∷◌, map, ◌==◌, nat_lt}
+use Rattle.std.specs.Prelude.{◌≡◌, ℕ, true, false, List, [], ◌∷◌, map, ◌==◌, nat_lt, if◌then◌else◌}
 use Rattle.std.specs.List.{AllByRecursion}
 use Rattle.event.specs.declared.Message.{Message}
 use Rattle.event.specs.Keys.{key_of}
@@ -18,12 +18,12 @@ messages_of v xs = map message_of (waiting v xs)
 -- a put goes to the messages of each variant of its group, at its place by key, and to no other's
 pub record PutLaws (h : Held) (xs : List Held) : Type 0 where
   pub sorted : Sorted key_of_held xs → Sorted key_of_held (insert key_of_held h xs)
-  pub messages : Sorted key_of_held xs → (v : ℕ) → messages_of v (insert key_of_held h xs) ≡ cond (has h.group v) (insert key_of h.message (messages_of v xs)) (messages_of v xs)
+  pub messages : Sorted key_of_held xs → (v : ℕ) → messages_of v (insert key_of_held h xs) ≡ (if has h.group v then insert key_of h.message (messages_of v xs) else messages_of v xs)
 
 -- the first is taken from the messages of each variant of its group, and from no other's
 pub record TakeLaws (x : Held) (xs : List Held) : Type 0 where
   pub sorted : Sorted key_of_held (x ∷ xs) → Sorted key_of_held xs
-  pub messages : (v : ℕ) → messages_of v (x ∷ xs) ≡ cond (has x.group v) (x.message ∷ messages_of v xs) (messages_of v xs)
+  pub messages : (v : ℕ) → messages_of v (x ∷ xs) ≡ (if has x.group v then x.message ∷ messages_of v xs else messages_of v xs)
 
 -- where c had none, it then waits for the messages of v, and every other variant for its own
 pub record SpreadLaws (v c : ℕ) (xs : List Held) : Type 0 where

@@ -14,11 +14,11 @@ pub enum CalendarFault {
     Full,
 }
 
-impl CalendarFault {
-    pub fn refusal(&self) -> Refusal
-        ensures { result ≡ refusal_of self.now }
-    {
-        let number = match self {
+impl From<CalendarFault> for Refusal {
+    ghost from_gives = { λ f r. r ≡ refusal_of f };
+
+    fn from(fault: CalendarFault) -> Refusal {
+        let number = match fault {
             CalendarFault::Memory => 0,
             CalendarFault::Full => 7,
         };

@@ -3,11 +3,13 @@
 
 pub mod fault;
 
-ghost use Rattle.std.specs.Prelude.{◌≡◌, ℕ, ◌+◌, ◌<◌, ◌≤◌, List, [], ◌∷◌, length, if◌then◌else◌, Ok, Err};
-ghost use Rattle.event.specs.Lists.{insert, first, rest, Sorted};
+ghost use Rattle.std.specs.Prelude.{◌≡◌, List, length, if◌then◌else◌, Ok, Err};
+ghost use Rattle.std.specs.List.{slice_get};
+ghost use Rattle.event.specs.Lists.{first, rest};
 ghost use Rattle.calendar.specs.declared.Held.{Held};
 ghost use Rattle.calendar.specs.declared.fault.CalendarFault.TheVariants.{Full};
-ghost use Rattle.calendar.specs.Calls.{key_of_held, accepts, at, leading, waiting, joins, spread, leaves, erase, wanted};
+ghost use Rattle.calendar.specs.Calls.{key_of_held, leading, waiting, joins, spread, leaves, erase, wanted};
+ghost use Rattle.calendar.specs.Contents.{Contents, accepts, put_in, holding, emptied, Lawful};
 ghost use Rattle.calendar.specs.Laws.{PutLaws, TakeLaws, SpreadLaws, EraseLaws};
 
 use event::{Key, Message};
@@ -40,12 +42,13 @@ impl Held {
         ensures laws { (xs : List Held) → SpreadLaws v c xs }
     {
         if self.group.has(v) {
-            return Held {
-                message: self.message,
+            Held {
                 group: self.group.with(c),
-            };
+                ..*self
+            }
+        } else {
+            *self
         }
-        *self
     }
 
     // Without v in its group. The laws say what an erase does to the messages of each variant.
@@ -54,8 +57,8 @@ impl Held {
         ensures laws { (xs : List Held) → EraseLaws v xs }
     {
         Held {
-            message: self.message,
             group: self.group.without(v),
+            ..*self
         }
     }
 
@@ -67,69 +70,46 @@ impl Held {
     }
 }
 
-// The held messages are one list, in order; every call is told by what it makes of that list.
+// The held messages are one list, in order; every call is told by what it makes of the contents.
 pub trait Calendar {
-    // what is held, by key and then older put first
-    ghost held: { Self → List Held };
-    // how many it can hold
-    ghost room: { Self → ℕ };
-    // the puts accepted since it was emptied
-    ghost puts: { Self → ℕ };
+    ghost meaning: { Self → Contents };
 
     // Goes behind those with its key. Refused where the calendar is full or its puts are used up, and then changes nothing.
     fn put(&mut self, h: Held) -> Result<(), CalendarFault>
-        ensures told { result ≡ (if accepts (held self.old) (room self.old) (puts self.old) then Ok tt else Err Full) }
-        ensures held { held self.new ≡ (if accepts (held self.old) (room self.old) (puts self.old) then insert key_of_held h (held self.old) else held self.old) }
-        ensures puts { puts self.new ≡ (if accepts (held self.old) (room self.old) (puts self.old) then puts self.old + 1 else puts self.old) }
-        ensures room { room self.new ≡ room self.old };
+        ensures told { result ≡ (if accepts (meaning self.old) then Ok tt else Err Full) }
+        ensures put { meaning self.new ≡ put_in h (meaning self.old) };
 
     // Message i, from 0, of those with the smallest key.
     fn look(&self, i: usize) -> Option<Held>
-        ensures { result ≡ at (leading (held self.now)) i };
+        ensures { result ≡ slice_get (leading (meaning self.now).held) i };
 
     // Tells and removes the first.
     fn take(&mut self) -> Option<Held>
-        ensures told { result ≡ first (held self.old) }
-        ensures held { held self.new ≡ rest (held self.old) }
-        ensures puts { puts self.new ≡ puts self.old }
-        ensures room { room self.new ≡ room self.old };
+        ensures told { result ≡ first (meaning self.old).held }
+        ensures taken { meaning self.new ≡ holding (rest (meaning self.old).held) (meaning self.old) };
 
     // Message i, from 0, of those that wait for v.
     fn peek(&self, v: u8, i: usize) -> Option<Held>
-        ensures { result ≡ at (waiting v (held self.now)) i };
+        ensures { result ≡ slice_get (waiting v (meaning self.now).held) i };
 
     fn capacity(&self) -> usize
-        ensures { result ≡ room self.now };
+        ensures { result ≡ (meaning self.now).room };
 
     // How many are held.
     fn count(&self) -> usize
-        ensures { result ≡ length (held self.now) };
+        ensures { result ≡ length (meaning self.now).held };
 
     // Adds c to every group that has v.
     fn spread(&mut self, v: u8, c: u8)
-        ensures held { held self.new ≡ spread v c (held self.old) }
-        ensures puts { puts self.new ≡ puts self.old }
-        ensures room { room self.new ≡ room self.old };
+        ensures { meaning self.new ≡ holding (spread v c (meaning self.old).held) (meaning self.old) };
 
     // Removes v from every group, and drops every message that no variant waits for.
     fn erase(&mut self, v: u8)
-        ensures held { held self.new ≡ erase v (held self.old) }
-        ensures puts { puts self.new ≡ puts self.old }
-        ensures room { room self.new ≡ room self.old };
+        ensures { meaning self.new ≡ holding (erase v (meaning self.old).held) (meaning self.old) };
 
     // Holds none, and counts puts anew.
     fn empty(&mut self)
-        ensures held { held self.new ≡ [] }
-        ensures puts { puts self.new ≡ 0 }
-        ensures room { room self.new ≡ room self.old };
+        ensures { meaning self.new ≡ emptied (meaning self.old) };
 
-    ghost roomy: { (s : Self) → 64 ≤ room s };
-
-    ghost bounded: { (s : Self) → room s ≤ 4096 };
-
-    ghost fits: { (s : Self) → length (held s) ≤ room s };
-
-    ghost few: { (s : Self) → puts s ≤ 1000000 };
-
-    ghost sorted: { (s : Self) → Sorted key_of_held (held s) };
+    ghost lawful: { (s : Self) → Lawful (meaning s) };
 }

@@ -1,6 +1,6 @@
--- The key of its message.
-use Rattle.calendar.proofs.Variants.{put_laws, take_laws}
+-- A put keeps its laws.
+use Rattle.calendar.proofs.Variants.{put_laws}
 use Rattle.calendar.proofs.Held.key.Goals as goal
 
-pub returns : goal.returns
-returns c = record { value = c.key.ensures; put = put_laws; take = take_laws }
+pub returns-clause-put : goal.returns-clause-put
+returns-clause-put c = put_laws
