@@ -5,17 +5,15 @@ use Rattle.std.specs.List.Sorted.{IsPermutation}
 use Rattle.std.specs.Option.{option_map}
 use Rattle.std.proofs.lemmas.Bool.{cases_Bool, cond_both}
 use Rattle.std.proofs.ByRecursion.{All-weaker, all_from_every}
-use Rattle.group.specs.Groups.{has}
 use Rattle.calendar.specs.declared.Held.{Held}
 use Rattle.event.specs.Lists.{insert, Sorted}
 use Rattle.event.specs.Keys.{before, same}
-use Rattle.calendar.specs.Calls.{key_of_held, at, leading, waiting}
+use Rattle.std.specs.List.{slice_get}
+use Rattle.calendar.specs.Calls.{key_of_held, leading}
 use Rattle.slot.specs.Rank.{ins, ranked, Rising}
 use Rattle.slot.proofs.Ranks.{ranked_shuffled, all_ins, all_ranked, ranked_rising, length_ranked}
 use Rattle.slot.specs.declared.Slot.{Slot}
-use Rattle.slot.specs.declared.pick.Pick.TheVariants.{Waiting, Like}
 use Rattle.slot.specs.Slots.{key_of_slot, earlier, ahead, steady, bare, bares, in_order, Young}
-use Rattle.slot.specs.Passes.{passes}
 use Rattle.slot.specs.Laws.{strictly, ahead_earlier, younger, behind, before_ahead, not_before}
 use Rattle.slot.proofs.Picks.{Climbs}
 use Rattle.slot.proofs.Nths.{climbs_from, steady_from}
@@ -82,7 +80,7 @@ pub in_order_sorted : (l : List Slot) → Sorted key_of_held (in_order l)
 in_order_sorted l = bares_sorted (ranked earlier l) (ranked_rising earlier strictly l)
 
 -- choices, of slots and of what they hold
-at_bares : (l : List Slot) (i : ℕ) → option_map bare (at l i) ≡ at (bares l) i
+at_bares : (l : List Slot) (i : ℕ) → option_map bare (slice_get l i) ≡ slice_get (bares l) i
 at_bares [] i = refl
 at_bares (x ∷ l) zero = refl
 at_bares (x ∷ l) (suc i) = at_bares l i
@@ -94,17 +92,15 @@ bares_kept p q h (x ∷ l) =
     (λ e. ap (λ t. bare x ∷ t) (bares_kept p q h l) ∙ sym (ap (λ b. cond b (bare x ∷ filter q (bares l)) (filter q (bares l))) (sym (h x) ∙ e)))
     (λ e. bares_kept p q h l ∙ sym (ap (λ b. cond b (bare x ∷ filter q (bares l)) (filter q (bares l))) (sym (h x) ∙ e)))
 
-pub peeks : (xs : List Slot) (v i : ℕ) → option_map bare (at (filter (passes (Waiting v)) (ranked earlier xs)) i) ≡ at (waiting v (in_order xs)) i
-peeks xs v i =
-    at_bares (filter (passes (Waiting v)) (ranked earlier xs)) i
-    ∙ ap (λ l. at l i) (bares_kept (passes (Waiting v)) (λ x. has x.group v) (λ x. refl) (ranked earlier xs))
+-- number i of those that p means, where q says the same of what they hold
+pub picks : (p : Slot → Bool) (q : Held → Bool) → ((x : Slot) → p x ≡ q (bare x)) → (xs : List Slot) (i : ℕ) → option_map bare (slice_get (filter p (ranked earlier xs)) i) ≡ slice_get (filter q (in_order xs)) i
+picks p q h xs i = at_bares (filter p (ranked earlier xs)) i ∙ ap (λ l. slice_get l i) (bares_kept p q h (ranked earlier xs))
 
-pub looks : (xs : List Slot) (x : Slot) (l : List Slot) (i : ℕ) → ranked earlier xs ≡ x ∷ l → option_map bare (at (filter (passes (Like (key_of_slot x))) (ranked earlier xs)) i) ≡ at (leading (in_order xs)) i
+-- number i of those with the smallest key, which is that of the first
+pub looks : (xs : List Slot) (x : Slot) (l : List Slot) (i : ℕ) → ranked earlier xs ≡ x ∷ l → option_map bare (slice_get (filter (λ s. same (key_of_slot x) (key_of_slot s)) (ranked earlier xs)) i) ≡ slice_get (leading (in_order xs)) i
 looks xs x l i e =
-    ap (λ r. option_map bare (at (filter (passes (Like (key_of_slot x))) r) i)) e
-    ∙ at_bares (filter (passes (Like (key_of_slot x))) (x ∷ l)) i
-    ∙ ap (λ t. at t i) (bares_kept (passes (Like (key_of_slot x))) (λ y. same (key_of_slot x) (key_of_held y)) (λ y. refl) (x ∷ l))
-    ∙ sym (ap (λ r. at (leading (bares r)) i) e)
+    picks (λ s. same (key_of_slot x) (key_of_slot s)) (λ y. same (key_of_slot x) (key_of_held y)) (λ s. refl) xs i
+    ∙ ap (λ r. slice_get (filter (λ y. same (key_of_slot x) (key_of_held y)) (bares r)) i) e ∙ sym (ap (λ r. slice_get (leading (bares r)) i) e)
 
 -- one after another, in order
 pub insert_last : (h : Held) (l : List Held) → AllByRecursion (λ y. before (key_of_held h) (key_of_held y) ≡ false) l → insert key_of_held h l ≡ l ++ h ∷ []

@@ -1,28 +1,17 @@
 -- The steps of the loops that choose among slots.
-use Rattle.std.proofs.Common.{◌≡◌, ℕ, ◌+◌, ◌<◌, ◌≤◌, Bool, true, false, ◌&&◌, List, [], ◌∷◌, length, get_or, take, is_some, Some, None, filter, Option, sym, refl, ap, ◌∙◌, add-one}
+use Rattle.std.proofs.Common.{◌≡◌, ℕ, ◌+◌, Bool, true, false, ◌&&◌, List, [], ◌∷◌, Some, None, filter, sym, refl, ap, ◌∙◌, add-one}
 use Rattle.std.specs.List.{AllByRecursion}
-use Rattle.std.proofs.lemmas.List.{take_more}
+use Rattle.std.proofs.lemmas.List.Elements.{filter_agree}
 use Rattle.std.proofs.ByRecursion.{All-weaker}
-use Rattle.std.proofs.lemmas.Bool.{both_ways, and_parts, and_from}
+use Rattle.std.proofs.lemmas.Bool.{and_parts, and_from}
 use Rattle.event.specs.Lists.{first as head}
-use Rattle.calendar.specs.Calls.{at}
+use Rattle.std.specs.List.{slice_get}
 use Rattle.slot.specs.Rank.{ranked}
 use Rattle.slot.specs.declared.Slot.{Slot}
-use Rattle.slot.specs.declared.pick.Pick.{Pick}
-use Rattle.slot.specs.Slots.{earlier, ahead, leads_all, steady, sooner}
-use Rattle.slot.specs.Passes.{passes, admits}
+use Rattle.slot.specs.Slots.{earlier, ahead, leads_all, steady}
+use Rattle.slot.specs.Passes.{admits}
 use Rattle.slot.specs.Laws.{strictly, ahead_earlier}
-use Rattle.slot.proofs.Picks.{Climbs, climbs_kept, kept_both, kept_same, first_yes, first_no, next_at, at_none, at_zero}
-
-pub step_yes : (p : Slot → Bool) (xs : List Slot) (i : ℕ) (d : Slot) (b b' : Option Slot) → i < length xs → b ≡ head (filter p (ranked earlier (take i xs)))
-    → p (get_or xs i d) ≡ true → b' ≡ sooner earlier b (get_or xs i d) → b' ≡ head (filter p (ranked earlier (take (i + 1) xs)))
-step_yes p xs i d b b' h inv e f =
-    f ∙ ap (λ o. sooner earlier o (get_or xs i d)) inv ∙ sym (first_yes earlier strictly p (take i xs) (get_or xs i d) e) ∙ sym (ap (λ l. head (filter p (ranked earlier l))) (take_more xs i d h))
-
-pub step_no : (p : Slot → Bool) (xs : List Slot) (i : ℕ) (d : Slot) (b b' : Option Slot) → i < length xs → b ≡ head (filter p (ranked earlier (take i xs)))
-    → p (get_or xs i d) ≡ false → b' ≡ b → b' ≡ head (filter p (ranked earlier (take (i + 1) xs)))
-step_no p xs i d b b' h inv e f =
-    f ∙ inv ∙ sym (first_no earlier strictly p (take i xs) (get_or xs i d) e) ∙ sym (ap (λ l. head (filter p (ranked earlier l))) (take_more xs i d h))
+use Rattle.slot.proofs.Picks.{Climbs, climbs_kept, kept_both, next_at, at_zero}
 
 pub all_from_leads : (x : Slot) (l : List Slot) → leads_all x l ≡ true → AllByRecursion (λ y. ahead x y ≡ true) l
 all_from_leads x [] h = tt
@@ -46,21 +35,17 @@ pub climbs_earlier : (l : List Slot) → Climbs ahead l → Climbs earlier l
 climbs_earlier [] h = tt
 climbs_earlier (x ∷ l) h = (All-weaker (λ y. ahead x y ≡ true) (λ y. earlier x y ≡ true) (λ y k. ahead_earlier x y k) l h.0, climbs_earlier l h.1)
 
-and_true : (b : Bool) → (b && true) ≡ b
-and_true true = refl
-and_true false = refl
+-- the first that passes, the next after x, and none
+pub nth_start : (p : Slot → Bool) (xs : List Slot) → head (filter (admits p None) (ranked earlier xs)) ≡ slice_get (filter p (ranked earlier xs)) 0
+nth_start p xs = ap head (filter_agree (admits p None) p (λ x. and_true (p x)) (ranked earlier xs)) ∙ sym (at_zero (filter p (ranked earlier xs)))
+  where
+    and_true : (b : Bool) → (b && true) ≡ b
+    and_true true = refl
+    and_true false = refl
 
-pub nth_start : (p : Pick) (xs : List Slot) → head (filter (admits p None) (ranked earlier xs)) ≡ at (filter (passes p) (ranked earlier xs)) 0
-nth_start p xs = ap head (kept_same (admits p None) (passes p) (ranked earlier xs) (λ x. and_true (passes p x))) ∙ sym (at_zero (filter (passes p) (ranked earlier xs)))
-
-pub nth_next : (p : Pick) (xs : List Slot) (k : ℕ) (o : Option Slot) → steady (ranked earlier xs) ≡ true → o ≡ at (filter (passes p) (ranked earlier xs)) k → is_some o ≡ true
-    → head (filter (admits p o) (ranked earlier xs)) ≡ at (filter (passes p) (ranked earlier xs)) (k + 1)
-nth_next p xs k None s e h = absurd (both_ways false refl h)
-nth_next p xs k (Some x) s e h =
-    ap head (kept_both (passes p) (earlier x) (ranked earlier xs))
-    ∙ next_at earlier strictly (filter (passes p) (ranked earlier xs)) k x (climbs_kept earlier (passes p) (ranked earlier xs) (climbs_earlier (ranked earlier xs) (climbs_from (ranked earlier xs) s))) (sym e)
-    ∙ sym (ap (at (filter (passes p) (ranked earlier xs))) (add-one k))
-
-pub nth_none : (l : List Slot) (k i : ℕ) (o : Option Slot) → o ≡ at l k → is_some o ≡ false → k ≤ i → None ≡ at l i
-nth_none l k i None e h b = sym (at_none l k i (sym e) b)
-nth_none l k i (Some x) e h b = absurd (both_ways true h refl)
+pub nth_next : (p : Slot → Bool) (xs : List Slot) (k : ℕ) (x : Slot) → steady (ranked earlier xs) ≡ true → Some x ≡ slice_get (filter p (ranked earlier xs)) k
+    → head (filter (admits p (Some x)) (ranked earlier xs)) ≡ slice_get (filter p (ranked earlier xs)) (k + 1)
+nth_next p xs k x s e =
+    ap head (kept_both p (earlier x) (ranked earlier xs))
+    ∙ next_at earlier strictly (filter p (ranked earlier xs)) k x (climbs_kept earlier p (ranked earlier xs) (climbs_earlier (ranked earlier xs) (climbs_from (ranked earlier xs) s))) (sym e)
+    ∙ sym (ap (slice_get (filter p (ranked earlier xs))) (add-one k))

@@ -1,13 +1,12 @@
 -- Choosing from a ranked list: the first that passes, and the one after it.
-use Rattle.std.proofs.Common.{◌≡◌, ℕ, zero, suc, ◌≤◌, Bool, true, false, cond, ◌&&◌, ◌⊎◌, List, [], ◌∷◌, ◌++◌, Some, None, filter, sym, refl, ap, ◌∙◌, subst, inl, inr, ⊎_elim, arith}
-use Rattle.std.specs.List.{AllByRecursion}
+use Rattle.std.proofs.Common.{◌≡◌, ℕ, zero, suc, ◌≤◌, Bool, true, false, cond, ◌&&◌, ◌⊎◌, List, [], ◌∷◌, ◌++◌, Some, None, Option, filter, append_assoc, append-nil, sym, refl, ap, ◌∙◌, subst, inl, inr, ⊎_elim, arith}
+use Rattle.std.specs.List.{AllByRecursion, fold, reduce}
 use Rattle.std.proofs.ByRecursion.{All-weaker, all_kept_by}
 use Rattle.std.proofs.lemmas.Bool.{cases_Bool, both_ways, cond_both}
 use Rattle.event.specs.Lists.{first as head}
-use Rattle.calendar.specs.Calls.{at}
+use Rattle.std.specs.List.{slice_get}
 use Rattle.slot.specs.Rank.{ins, ranked, Strict, Rising}
 use Rattle.slot.proofs.Ranks.{ins_comm, ranked_rising}
-use Rattle.slot.specs.Slots.{sooner}
 
 pub kept_both : {X : Type 0} (p q : X → Bool) (l : List X) → filter (λ x. p x && q x) l ≡ filter q (filter p l)
 kept_both p q [] = refl
@@ -15,26 +14,22 @@ kept_both p q (x ∷ l) = ⊎_elim
     (λ (e : p x ≡ true). simp e (ap (λ t. cond (q x) (x ∷ t) t) (kept_both p q l)))
     (λ (e : p x ≡ false). simp e (kept_both p q l)) (cases_Bool (p x))
 
-pub kept_same : {X : Type 0} (p q : X → Bool) (l : List X) → ((x : X) → p x ≡ q x) → filter p l ≡ filter q l
-kept_same p q [] h = refl
-kept_same p q (x ∷ l) h = ap (λ t. cond (p x) (x ∷ t) t) (kept_same p q l h) ∙ ap (λ b. cond b (x ∷ filter q l) (filter q l)) (h x)
-
 pub kept_every : {X : Type 0} (p : X → Bool) (l : List X) → AllByRecursion (λ x. p x ≡ true) l → filter p l ≡ l
 kept_every p [] h = refl
 kept_every p (x ∷ l) h = ap (λ b. cond b (x ∷ filter p l) (filter p l)) h.0 ∙ ap (λ t. x ∷ t) (kept_every p l h.1)
 
-pub all_at : {X : Type 0} (P : X → Type 0) (l : List X) (k : ℕ) (x : X) → AllByRecursion P l → at l k ≡ Some x → P x
+pub all_at : {X : Type 0} (P : X → Type 0) (l : List X) (k : ℕ) (x : X) → AllByRecursion P l → slice_get l k ≡ Some x → P x
 all_at P [] k x h e = let z : ◌≡◌ {A = ℕ} 0 1 = cc in absurd (let y : ⊥ = omega arith in y)
 all_at P (y ∷ l) zero x h e = let z : y ≡ x = cc in subst P z h.0
 all_at P (y ∷ l) (suc k) x h e = all_at P l k x h.1 e
 
-pub at_none : {X : Type 0} (l : List X) (k j : ℕ) → at l k ≡ None → k ≤ j → at l j ≡ None
+pub at_none : {X : Type 0} (l : List X) (k j : ℕ) → slice_get l k ≡ None → k ≤ j → slice_get l j ≡ None
 at_none [] k j e h = refl
 at_none (x ∷ l) zero j e h = let z : ◌≡◌ {A = ℕ} 0 1 = cc in absurd (let y : ⊥ = omega arith in y)
 at_none (x ∷ l) (suc k) zero e h = absurd (let y : ⊥ = omega arith in y)
 at_none (x ∷ l) (suc k) (suc j) e h = at_none l k j e (let m : k ≤ j = omega arith in m)
 
-pub at_zero : {X : Type 0} (l : List X) → at l 0 ≡ head l
+pub at_zero : {X : Type 0} (l : List X) → slice_get l 0 ≡ head l
 at_zero [] = refl
 at_zero (x ∷ l) = refl
 
@@ -47,6 +42,11 @@ module _ {X : Type 0} (lt : X → X → Bool) where
   pub climbs_kept : (p : X → Bool) (l : List X) → Climbs l → Climbs (filter p l)
   climbs_kept p [] h = tt
   climbs_kept p (x ∷ l) h = cond_both (p x) (x ∷ filter p l) (filter p l) Climbs (λ _. (all_kept_by p (λ y. lt x y ≡ true) l h.0, climbs_kept p l h.1)) (λ _. climbs_kept p l h.1)
+
+-- the earlier of the two
+abbrev pub sooner : {X : Type 0} → (X → X → Bool) → Option X → X → Option X
+sooner lt None x = Some x
+sooner lt (Some b) x = cond (lt x b) (Some x) (Some b)
 
 module _ {X : Type 0} (lt : X → X → Bool) (o : Strict lt) where
   pub ranked_push : (l : List X) (x : X) → ranked lt (l ++ x ∷ []) ≡ ins lt x (ranked lt l)
@@ -97,15 +97,30 @@ module _ {X : Type 0} (lt : X → X → Bool) (o : Strict lt) where
       (λ (a : lt x y ≡ true). ap (λ b. head (cond b (x ∷ y ∷ l) (y ∷ ins lt x l))) a ∙ sym (ap (λ b. cond b (Some x) (Some y)) a))
       (λ (a : lt x y ≡ false). ap (λ b. head (cond b (x ∷ y ∷ l) (y ∷ ins lt x l))) a ∙ sym (ap (λ b. cond b (Some x) (Some y)) a)) (cases_Bool (lt x y))
 
-  -- a loop that keeps the first that passes
-  pub first_no : (p : X → Bool) (l : List X) (x : X) → p x ≡ false → head (filter p (ranked lt (l ++ x ∷ []))) ≡ head (filter p (ranked lt l))
-  first_no p l x e = ap (λ t. head (filter p t)) (ranked_push l x) ∙ ap head (kept_ins_no p x (ranked lt l) e)
+  -- a choice among those that pass is one among all
+  pub kept_ranked : (p : X → Bool) (l : List X) → filter p (ranked lt l) ≡ ranked lt (filter p l)
+  kept_ranked p [] = refl
+  kept_ranked p (x ∷ l) = ⊎_elim
+      (λ (e : p x ≡ true). simp e (kept_ins_yes p x (ranked lt l) e (ranked_rising lt o l) ∙ ap (ins lt x) (kept_ranked p l)))
+      (λ (e : p x ≡ false). simp e (kept_ins_no p x (ranked lt l) e ∙ kept_ranked p l)) (cases_Bool (p x))
 
-  pub first_yes : (p : X → Bool) (l : List X) (x : X) → p x ≡ true → head (filter p (ranked lt (l ++ x ∷ []))) ≡ sooner lt (head (filter p (ranked lt l))) x
-  first_yes p l x e = ap (λ t. head (filter p t)) (ranked_push l x) ∙ ap head (kept_ins_yes p x (ranked lt l) e (ranked_rising lt o l)) ∙ head_ins x (filter p (ranked lt l))
+  -- what takes the earlier of each two finds the first
+  module _ (f : X → X → X) (e : (b x : X) → f b x ≡ cond (lt x b) x b) where
+    some_sooner : (b x : X) → sooner lt (Some b) x ≡ Some (f b x)
+    some_sooner b x = ⊎_elim (λ (t : lt x b ≡ true). rw (e b x) (simp t)) (λ (t : lt x b ≡ false). rw (e b x) (simp t)) (cases_Bool (lt x b))
+
+    from_front : (front : List X) (b : X) (l : List X) → head (ranked lt front) ≡ Some b → Some (fold f b l) ≡ head (ranked lt (front ++ l))
+    from_front front b [] h = sym h ∙ ap (λ t. head (ranked lt t)) (sym (append-nil front))
+    from_front front b (x ∷ l) h =
+        from_front (front ++ x ∷ []) (f b x) l (ap head (ranked_push front x) ∙ head_ins x (ranked lt front) ∙ ap (λ t. sooner lt t x) h ∙ some_sooner b x)
+        ∙ ap (λ t. head (ranked lt t)) (append_assoc front (x ∷ []) l)
+
+    pub first_reduced : (l : List X) → reduce f l ≡ head (ranked lt l)
+    first_reduced [] = refl
+    first_reduced (x ∷ l) = from_front (x ∷ []) x l refl
 
   -- the one after x
-  pub next_at : (l : List X) (k : ℕ) (x : X) → Climbs lt l → at l k ≡ Some x → head (filter (lt x) l) ≡ at l (suc k)
+  pub next_at : (l : List X) (k : ℕ) (x : X) → Climbs lt l → slice_get l k ≡ Some x → head (filter (lt x) l) ≡ slice_get l (suc k)
   next_at [] k x h e = refl
   next_at (y ∷ l) zero x h e =
       let z : y ≡ x = cc in

@@ -1,12 +1,12 @@
 -- Lists in a strict order.
-use Rattle.std.specs.Prelude.{◌≡◌, Bool, true, false, cond, List, [], ◌∷◌}
+use Rattle.std.specs.Prelude.{◌≡◌, Bool, true, false, if◌then◌else◌, List, [], ◌∷◌}
 use Rattle.std.specs.List.{AllByRecursion}
 
 module _ {X : Type 0} (lt : X → X → Bool) where
   -- x goes behind those that it does not come before
   abbrev pub ins : X → List X → List X
   ins x [] = x ∷ []
-  ins x (y ∷ ys) = cond (lt x y) (x ∷ y ∷ ys) (y ∷ ins x ys)
+  ins x (y ∷ ys) = if lt x y then x ∷ y ∷ ys else y ∷ ins x ys
 
   -- the same elements, in order
   abbrev pub ranked : List X → List X

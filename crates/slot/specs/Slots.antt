@@ -1,13 +1,14 @@
 -- Held messages with their age, in order.
-use Rattle.std.specs.Prelude.{ℕ, ◌<◌, Bool, true, cond, ◌&&◌, ◌||◌, List, [], ◌∷◌, length, Some, None, Option, nat_lt}
-use Rattle.std.specs.declared.cmp.Ordering.TheVariants.{Less, Equal, Greater}
+use Rattle.std.specs.Prelude.{ℕ, ◌<◌, Bool, true, ◌&&◌, ◌||◌, List, [], ◌∷◌, length, nat_lt}
 use Rattle.std.specs.declared.cmp.Ordering.{Ordering}
+use Rattle.std.specs.Ordering.{nat_cmp, on, then_cmp, flip_args}
 use Rattle.std.specs.List.{AllWithin}
 use Rattle.event.specs.declared.Key.{Key}
-use Rattle.event.specs.Keys.{before, same, then}
+use Rattle.event.specs.Keys.{key_cmp, before, same, then}
 use Rattle.calendar.specs.declared.Held.{Held}
 use Rattle.calendar.specs.Calls.{key_of_held}
 use Rattle.slot.specs.declared.Slot.{Slot}
+use Rattle.slot.specs.declared.order.Rank.{Rank}
 use Rattle.slot.specs.Rank.{ranked}
 
 abbrev pub key_of_slot : Slot → Key
@@ -29,9 +30,21 @@ earlier x y = by_key (key_of_slot x) (key_of_slot y) (then x.age y.age (last x y
 unfoldable pub ahead : Slot → Slot → Bool
 ahead x y = by_key (key_of_slot x) (key_of_slot y) (nat_lt x.age y.age)
 
+-- what the order goes by
+abbrev pub rank_of : Slot → Rank
+rank_of x = record { key = key_of_slot x; age = x.age; kind = x.held.message.kind; «data» = x.held.message.«data»; group = x.held.group }
+
+-- as the parts compare, in their order
+abbrev pub slot_cmp : Slot → Slot → Ordering
+slot_cmp =
+    then_cmp (on key_of_slot key_cmp)
+    (then_cmp (on (λ x. x.age) nat_cmp)
+    (then_cmp (on (λ x. x.held.message.kind) nat_cmp)
+    (then_cmp (on (λ x. x.held.message.«data») nat_cmp) (on (λ x. x.held.group.mask) nat_cmp))))
+
 -- what `cmp` answers: the earlier is the greater
 abbrev pub turned : Slot → Slot → Ordering
-turned x y = cond (earlier x y) Greater (cond (earlier y x) Less Equal)
+turned = flip_args slot_cmp
 
 abbrev pub bare : Slot → Held
 bare x = x.held
@@ -56,8 +69,3 @@ leads_all x (y ∷ ys) = ahead x y && leads_all x ys
 unfoldable pub steady : List Slot → Bool
 steady [] = true
 steady (x ∷ xs) = leads_all x xs && steady xs
-
--- the earlier of the two
-abbrev pub sooner : {X : Type 0} → (X → X → Bool) → Option X → X → Option X
-sooner lt None x = Some x
-sooner lt (Some b) x = cond (lt x b) (Some x) (Some b)

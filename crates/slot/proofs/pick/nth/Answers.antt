@@ -1,13 +1,19 @@
 -- Each turn finds the next.
-use Rattle.std.proofs.Common.{◌∙◌}
-use Rattle.slot.proofs.Nths.{nth_next, nth_none, nth_start}
+use Rattle.std.proofs.Common.{◌+◌, ◌∙◌, sym, arith}
+use Rattle.slot.proofs.Nths.{nth_next, nth_start}
+use Rattle.slot.proofs.Picks.{at_none}
 use Rattle.slot.proofs.pick.nth.Goals as goal
 
-pub returns-then-is_none : goal.returns-then-is_none
-returns-then-is_none c = λ s. nth_none _ c.loop-k.k c.args.i c.loop-k.last (c.loop-k.invariant s) c.if-is_none.ensures c.loop-k.auto.k-end
+pub returns-in_err-last : goal.returns-in_err-last
+returns-in_err-last g c p t s = c.from_residual.ensures ∙ sym (at_none _ 0 c.args.i (sym (c.in_err-last.ensures p t ∙ nth_start p c.args.slots.now)) (omega arith))
 
-pub loop-k-preserved : goal.loop-k-preserved
-loop-k-preserved c = λ s. c.first_after-last-in-loop-k.ensures ∙ nth_next c.args.pick c.args.slots.now c.loop-k.k c.loop-k.last s (c.loop-k.invariant s) c.if-is_none.ensures
+pub loop-init : goal.loop-init
+loop-init g c p t s = c.in_ok-last.ensures p t ∙ nth_start p c.args.slots.now
 
-pub loop-k-init : goal.loop-k-init
-loop-k-init c = λ _. c.first_after-last.ensures ∙ nth_start c.args.pick c.args.slots.now
+pub returns-in_err-last-2 : goal.returns-in_err-last-2
+returns-in_err-last-2 g c p t s =
+    c.from_residual-in_err-last-2.ensures
+    ∙ sym (at_none _ (c.loop.counter + 1) c.args.i (sym (c.in_err-last-2.ensures p t ∙ nth_next p c.args.slots.now c.loop.counter c.loop.last s (c.loop.invariant p t s))) (omega arith))
+
+pub loop-preserved : goal.loop-preserved
+loop-preserved g c p t s = c.in_ok-last-2.ensures p t ∙ nth_next p c.args.slots.now c.loop.counter c.loop.last s (c.loop.invariant p t s)

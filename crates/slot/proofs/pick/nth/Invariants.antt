@@ -1,10 +1,11 @@
--- The last one found is number k.
-use Rattle.std.proofs.Common.{◌≡◌, true, filter}
-use Rattle.calendar.specs.Calls.{at}
+-- The last one found is number `counter`.
+use Rattle.std.proofs.Common.{◌≡◌, true, filter, Some, Bool}
+use Rattle.std.specs.List.{slice_get}
+use Rattle.slot.specs.declared.Slot.{Slot}
 use Rattle.slot.specs.Rank.{ranked}
 use Rattle.slot.specs.Slots.{earlier, steady}
-use Rattle.slot.specs.Passes.{passes}
+use Rattle.slot.specs.Passes.{Tests}
 use Rattle.slot.proofs.pick.nth.Given as goal
 
-abbrev pub invariant-loop-k : goal.invariant-loop-k
-invariant-loop-k l = steady (ranked earlier l.slots) ≡ true → l.last ≡ at (filter (passes l.pick) (ranked earlier l.slots)) l.k
+abbrev pub invariant-loop : goal.invariant-loop
+invariant-loop g l = (p : Slot → Bool) → Tests g.F.Fn l.test p → steady (ranked earlier l.slots) ≡ true → Some l.last ≡ slice_get (filter p (ranked earlier l.slots)) l.counter
