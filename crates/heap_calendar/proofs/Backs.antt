@@ -1,61 +1,53 @@
--- Putting a list in order in again, one by one.
-use Rattle.std.proofs.Common.{◌≡◌, ℕ, zero, suc, ◌+◌, ◌<◌, Bool, true, false, cond, List, [], ◌∷◌, ◌++◌, map, length, get_or, take, filter, sym, refl, ap, ◌∙◌, ⊎_elim}
-use Rattle.std.specs.List.{AllByRecursion}
+-- Putting what is made of a list in order in again, one by one.
+use Rattle.std.proofs.Common.{◌≡◌, ℕ, ◌+◌, ◌<◌, Bool, true, false, List, [], ◌∷◌, ◌++◌, length, get_or, take, map, filter, Some, None, Option, sym, refl, ap, ◌∙◌, append-nil, subst, ⊎_elim}
+use Rattle.std.specs.List.{AllByRecursion, filter_map, cons_option}
+use Rattle.std.specs.Bool.{then_some}
+use Rattle.std.specs.Prelude.{IfSome}
 use Rattle.std.proofs.lemmas.Bool.{cases_Bool}
 use Rattle.std.proofs.lemmas.List.{take_more}
-use Rattle.std.proofs.ByRecursion.{All-weaker, All-map, all_kept_by}
+use Rattle.std.proofs.lemmas.List.Elements.{filter_map-append}
+use Rattle.std.proofs.lemmas.Option.{none-some, same_Some}
 use Rattle.event.specs.Keys.{before}
-use Rattle.event.specs.Lists.{insert, Sorted}
+use Rattle.event.specs.Lists.{insert, first, rest, Sorted}
 use Rattle.calendar.specs.declared.Held.{Held}
 use Rattle.calendar.specs.Calls.{key_of_held}
-use Rattle.slot.specs.declared.Slot.{Slot}
-use Rattle.slot.specs.Slots.{bare, bares}
 use Rattle.slot.proofs.Holds.{insert_last, sorted_front}
+use Rattle.heap_calendar.specs.Changes.{KeepsKeys}
 
-pub bares_get_or : (l : List Slot) (i : ℕ) (d : Slot) → get_or (bares l) i (bare d) ≡ bare (get_or l i d)
-bares_get_or [] i d = refl
-bares_get_or (x ∷ l) zero d = refl
-bares_get_or (x ∷ l) (suc i) d = bares_get_or l i d
+module _ (g : Held → Option Held) (e : KeepsKeys g) where
+  -- what is made of x goes behind what is made of those before it
+  behind_all : (x y : Held) → key_of_held y ≡ key_of_held x → (l : List Held) → AllByRecursion (λ z. before (key_of_held x) (key_of_held z) ≡ false) l → AllByRecursion (λ z. before (key_of_held y) (key_of_held z) ≡ false) (filter_map g l)
+  behind_all x y k [] h = tt
+  behind_all x y k (z ∷ l) h = one (g z) (e z) (behind_all x y k l h.1)
+    where
+      one : (o : Option Held) → IfSome o (λ w. key_of_held w ≡ key_of_held z) → AllByRecursion (λ z. before (key_of_held y) (key_of_held z) ≡ false) (filter_map g l)
+          → AllByRecursion (λ z. before (key_of_held y) (key_of_held z) ≡ false) (cons_option o (filter_map g l))
+      one None p ih = ih
+      one (Some w) p ih = (ap (λ a. before a (key_of_held w)) k ∙ ap (before (key_of_held x)) p ∙ h.0, ih)
 
--- a change that keeps keys
-module _ (f : Held → Held) (e : (x : Held) → key_of_held (f x) ≡ key_of_held x) where
-  map_push : (l : List Held) (x : Held) → map f (l ++ x ∷ []) ≡ map f l ++ f x ∷ []
-  map_push [] x = refl
-  map_push (y ∷ l) x = ap (λ t. f y ∷ t) (map_push l x)
+  one_more : (l : List Held) (i : ℕ) (d : Held) → i < length l → filter_map g (take (i + 1) l) ≡ filter_map g (take i l) ++ cons_option (g (get_or l i d)) []
+  one_more l i d h = ap (filter_map g) (take_more l i d h) ∙ filter_map-append g (take i l) (get_or l i d ∷ [])
 
-  -- what is changed goes behind those before it
-  last_of : (l : List Held) (i : ℕ) (d : Held) → i < length l → Sorted key_of_held l → AllByRecursion (λ y. before (key_of_held (f (get_or l i d))) (key_of_held y) ≡ false) (map f (take i l))
-  last_of l i d h s =
-      All-map (λ y. before (key_of_held (f (get_or l i d))) (key_of_held y) ≡ false) f (take i l)
-      (All-weaker (λ y. before (key_of_held (get_or l i d)) (key_of_held y) ≡ false) (λ y. before (key_of_held (f (get_or l i d))) (key_of_held (f y)) ≡ false)
-      (λ y k. ap (λ a. before a (key_of_held (f y))) (e (get_or l i d)) ∙ ap (before (key_of_held (get_or l i d))) (e y) ∙ k) (take i l) (sorted_front l i d h s))
+  pub given_more : (l : List Held) (i : ℕ) (d y : Held) (acc acc' : List Held) → i < length l → Sorted key_of_held l → g (get_or l i d) ≡ Some y → acc ≡ filter_map g (take i l)
+      → acc' ≡ insert key_of_held y acc → acc' ≡ filter_map g (take (i + 1) l)
+  given_more l i d y acc acc' h s o a b =
+      let k : key_of_held y ≡ key_of_held (get_or l i d) = subst (λ p. IfSome p (λ w. key_of_held w ≡ key_of_held (get_or l i d))) o (e (get_or l i d)) in
+      b ∙ ap (insert key_of_held y) a ∙ insert_last y (filter_map g (take i l)) (behind_all (get_or l i d) y k (take i l) (sorted_front l i d h s))
+      ∙ ap (λ p. filter_map g (take i l) ++ cons_option p []) (sym o) ∙ sym (one_more l i d h)
 
-  pub map_more : (l : List Held) (i : ℕ) (d : Held) (acc acc' : List Held) → i < length l → Sorted key_of_held l → acc ≡ map f (take i l) → acc' ≡ insert key_of_held (f (get_or l i d)) acc
-      → acc' ≡ map f (take (i + 1) l)
-  map_more l i d acc acc' h s a b =
-      b ∙ ap (insert key_of_held (f (get_or l i d))) a ∙ insert_last (f (get_or l i d)) (map f (take i l)) (last_of l i d h s)
-      ∙ sym (map_push (take i l) (get_or l i d)) ∙ sym (ap (map f) (take_more l i d h))
+  pub none_more : (l : List Held) (i : ℕ) (d : Held) (acc : List Held) → i < length l → g (get_or l i d) ≡ None → acc ≡ filter_map g (take i l) → acc ≡ filter_map g (take (i + 1) l)
+  none_more l i d acc h o a = a ∙ sym (append-nil (filter_map g (take i l))) ∙ ap (λ p. filter_map g (take i l) ++ cons_option p []) (sym o) ∙ sym (one_more l i d h)
 
-  module _ (p : Held → Bool) where
-    kept_push : (l : List Held) (x : Held) → filter p (l ++ x ∷ []) ≡ filter p l ++ cond (p x) (x ∷ []) []
-    kept_push [] x = refl
-    kept_push (y ∷ l) x = ⊎_elim (λ (t : p y ≡ true). simp t (ap (λ r. y ∷ r) (kept_push l x))) (λ (t : p y ≡ false). simp t (kept_push l x)) (cases_Bool (p y))
+-- a change that drops none, and one that drops what fails a test
+pub all_given : (f : Held → Held) (l : List Held) → filter_map (λ x. Some (f x)) l ≡ map f l
+all_given f [] = refl
+all_given f (x ∷ l) = ap (λ t. f x ∷ t) (all_given f l)
 
-    whole : (l : List Held) (i : ℕ) (d : Held) → i < length l → filter p (map f (take (i + 1) l)) ≡ filter p (map f (take i l)) ++ cond (p (f (get_or l i d))) (f (get_or l i d) ∷ []) []
-    whole l i d h = ap (λ t. filter p (map f t)) (take_more l i d h) ∙ ap (filter p) (map_push (take i l) (get_or l i d)) ∙ kept_push (map f (take i l)) (f (get_or l i d))
+pub passing_given : (f : Held → Held) (p : Held → Bool) (l : List Held) → filter_map (λ x. then_some (p (f x)) (f x)) l ≡ filter p (map f l)
+passing_given f p [] = refl
+passing_given f p (x ∷ l) = ⊎_elim (λ (t : p (f x) ≡ true). simp t (ap (λ r. f x ∷ r) (passing_given f p l))) (λ (t : p (f x) ≡ false). simp t (passing_given f p l)) (cases_Bool (p (f x)))
 
-    nothing_more : (l : List Held) → l ++ [] ≡ l
-    nothing_more [] = refl
-    nothing_more (x ∷ l) = ap (λ t. x ∷ t) (nothing_more l)
-
-    pub kept_more : (l : List Held) (i : ℕ) (d : Held) (acc acc' : List Held) → i < length l → Sorted key_of_held l → acc ≡ filter p (map f (take i l)) → p (f (get_or l i d)) ≡ true
-        → acc' ≡ insert key_of_held (f (get_or l i d)) acc → acc' ≡ filter p (map f (take (i + 1) l))
-    kept_more l i d acc acc' h s a t b =
-        b ∙ ap (insert key_of_held (f (get_or l i d))) a
-        ∙ insert_last (f (get_or l i d)) (filter p (map f (take i l))) (all_kept_by p (λ y. before (key_of_held (f (get_or l i d))) (key_of_held y) ≡ false) (map f (take i l)) (last_of l i d h s))
-        ∙ sym (whole l i d h ∙ ap (λ w. filter p (map f (take i l)) ++ cond w (f (get_or l i d) ∷ []) []) t)
-
-    pub dropped_more : (l : List Held) (i : ℕ) (d : Held) (acc acc' : List Held) → i < length l → acc ≡ filter p (map f (take i l)) → p (f (get_or l i d)) ≡ false
-        → acc' ≡ acc → acc' ≡ filter p (map f (take (i + 1) l))
-    dropped_more l i d acc acc' h a t b =
-        b ∙ a ∙ sym (nothing_more (filter p (map f (take i l)))) ∙ sym (whole l i d h ∙ ap (λ w. filter p (map f (take i l)) ++ cond w (f (get_or l i d) ∷ []) []) t)
+-- a list is its first and the rest
+pub first_rest : {X : Type 0} (l : List X) (x : X) → Some x ≡ first l → l ≡ x ∷ rest l
+first_rest [] x e = absurd (none-some x (sym e))
+first_rest (y ∷ l) x e = ap (λ z. z ∷ l) (same_Some y x (sym e))

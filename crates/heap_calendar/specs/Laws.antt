@@ -1,10 +1,11 @@
 -- What a calendar's laws ask, of a heap of slots.
-use Rattle.std.specs.Prelude.{◌≡◌, ℕ, ◌≤◌, List, length}
 use Rattle.std.proofs.Common.{arith}
-use Rattle.slot.specs.declared.Slot.{Slot}
-use Rattle.slot.specs.Slots.{in_order}
-use Rattle.slot.proofs.Holds.{length_in_order}
+use Rattle.calendar.specs.Contents.{Contents, Lawful}
+use Rattle.heap_calendar.specs.declared.store.HeapCalendar.{HeapCalendar}
 
--- as many are held as the array has
-pub held_within : (xs : List Slot) (n room : ℕ) → n ≡ length xs → n ≤ room → length (in_order xs) ≤ room
-held_within xs n room e h = let l = length_in_order xs in omega arith
+-- what a calendar of 512 in a heap holds
+abbrev pub contents_of : HeapCalendar → Contents
+contents_of s = record { held = s.queue.held; room = 512; puts = s.puts }
+
+pub lawful_contents : (s : HeapCalendar) → Lawful (contents_of s)
+lawful_contents s = record { roomy = omega arith; bounded = omega arith; fits = s.queue.fits; few = s.few; sorted = s.queue.sorted }

@@ -2,5 +2,5 @@
 #![tactic(auto)]
 
 pub mod calendar_impl;
-mod parts;
+mod queue;
 pub mod store;

@@ -1,35 +1,24 @@
--- All out in order, and what is left in again.
-use Rattle.std.proofs.Common.{◌≡◌, ◌≤◌, length, heap_items, sym, ap, ◌∙◌, subst, arith}
-use Rattle.slot.specs.Rank.{ranked}
-use Rattle.slot.proofs.Ranks.{length_ranked}
-use Rattle.event.specs.Lists.{Sorted}
-use Rattle.calendar.specs.Calls.{key_of_held}
-use Rattle.slot.specs.Slots.{earlier, bares}
-use Rattle.slot.specs.Laws.{strictly}
-use Rattle.slot.proofs.Holds.{in_order_sorted}
+-- Each goes on without v, if some variant still waits for it.
+use Rattle.std.proofs.Common.{◌≡◌, Bool, true, false, ◌∙◌, sym, refl, ap, rules, arith}
+use Rattle.std.specs.Bool.{then_some}
+use Rattle.std.specs.Prelude.{IfSome}
+use Rattle.std.proofs.lemmas.Bool.{lt-ltb, cond-true}
+use Rattle.calendar.specs.Calls.{key_of_held, leaves, wanted}
+use Rattle.calendar.specs.Contents.{holding}
+use Rattle.calendar.specs.declared.Held.{Held}
+use Rattle.heap_calendar.specs.Laws.{contents_of}
+use Rattle.heap_calendar.proofs.Backs.{passing_given}
 use Rattle.heap_calendar.proofs.calendar_impl.HeapCalendarCalendar.erase.Goals as goal
 
-pub erase_back-self-requires : goal.erase_back-self-requires
-erase_back-self-requires c =
-    let s = c.args.self.now in
-    let e : c.as_slice.result.now ≡ ranked earlier (heap_items s.heap) = c.as_slice.ensures.value ∙ c.pop_all.ensures.out in
-    let n : length c.as_slice.result.now ≤ 512 = omega (arith, ap length e, length_ranked earlier strictly (heap_items s.heap), s.heap.«data».ok.0, s.short) in
-    record { none = c.pop_all.ensures.heap; room = (omega (arith, c.pop_all.ensures.caps.0, s.roomy), n); sorted = subst (λ l. Sorted key_of_held (bares l)) (sym e) (in_order_sorted (heap_items s.heap)) }
+-- what is left keeps its key
+same_key : (v : _) (x : Held) (b : Bool) → IfSome (then_some b (leaves v x)) (λ y. key_of_held y ≡ key_of_held x)
+same_key v x true = refl
+same_key v x false = tt
 
-pub invariant_of-self : goal.invariant_of-self
-invariant_of-self c =
+pub returns-then-v-lt-VARIANTS : goal.returns-then-v-lt-VARIANTS
+returns-then-v-lt-VARIANTS c =
     let s = c.args.self.now in
-    let e : c.as_slice.result.now ≡ ranked earlier (heap_items s.heap) = c.as_slice.ensures.value ∙ c.pop_all.ensures.out in
-    let n : length c.as_slice.result.now ≤ 512 = omega (arith, ap length e, length_ranked earlier strictly (heap_items s.heap), s.heap.«data».ok.0, s.short) in
-    let a = c.erase_back-self.ensures.sound in
-    let l = c.erase_back-self.ensures.len in
-    record {
-      roomy = omega (arith, c.erase_back-self.ensures.cap, c.pop_all.ensures.caps.0, s.roomy);
-      roomier = omega (arith, c.pop_all.ensures.caps.1, c.clear.ensures.capacity, s.roomier);
-      short = omega (arith, l.0, l.1);
-      few = s.few;
-      aged = omega (arith, l.1);
-      young = a.0;
-      built = a.1;
-      apart = a.2;
-    }
+    let v = c.args.v in
+    ap (λ l. holding l (contents_of s))
+    (c.change.ensures.held (λ (x : Held). then_some (wanted (leaves v x)) (leaves v x)) (search rules) (λ x. same_key v x (wanted (leaves v x)))
+    ∙ passing_given (leaves v) wanted s.queue.held ∙ sym (cond-true _ _ _ (lt-ltb v 16 (omega arith))))

@@ -1,42 +1,18 @@
--- All out in order, and in again with the change.
-use Rattle.std.proofs.Common.{◌≡◌, ◌≤◌, length, heap_items, sym, refl, ap, ◌∙◌, subst, arith}
-use Rattle.slot.specs.Rank.{ranked}
-use Rattle.slot.proofs.Ranks.{length_ranked}
-use Rattle.event.specs.Lists.{Sorted}
-use Rattle.calendar.specs.Calls.{key_of_held}
-use Rattle.slot.specs.Slots.{earlier, bares}
-use Rattle.slot.specs.Laws.{strictly}
-use Rattle.slot.proofs.Holds.{in_order_sorted}
-use Rattle.heap_calendar.proofs.Steps.{sound_moved}
+-- Each is kept, with c where v is.
+use Rattle.std.proofs.Common.{◌∙◌, Some, ap, rules}
+use Rattle.event.specs.Keys.{key_of}
+use Rattle.calendar.specs.Calls.{joins}
+use Rattle.calendar.specs.Contents.{holding}
+use Rattle.calendar.specs.declared.Held.{Held}
+use Rattle.calendar.proofs.Variants.{joins_message}
+use Rattle.heap_calendar.specs.Laws.{contents_of}
+use Rattle.heap_calendar.proofs.Backs.{all_given}
 use Rattle.heap_calendar.proofs.calendar_impl.HeapCalendarCalendar.spread.Goals as goal
 
-pub spread_back-requires : goal.spread_back-requires
-spread_back-requires c =
+pub returns : goal.returns
+returns c =
     let s = c.args.self.now in
-    let e : c.as_slice.result.now ≡ ranked earlier (heap_items s.heap) = c.as_slice.ensures.value ∙ c.pop_all.ensures.out in
-    let n : length c.as_slice.result.now ≤ 512 = omega (arith, ap length e, length_ranked earlier strictly (heap_items s.heap), s.heap.«data».ok.0, s.short) in
-    record { none = c.pop_all.ensures.heap; room = (omega (arith, c.pop_all.ensures.caps.0, s.roomy), n); sorted = subst (λ l. Sorted key_of_held (bares l)) (sym e) (in_order_sorted (heap_items s.heap)) }
-
-pub overflow_cast-self : goal.overflow_cast-self
-overflow_cast-self c =
-    let s = c.args.self.now in
-    let e = c.as_slice.ensures.value ∙ c.pop_all.ensures.out in
-    omega (arith, ap length e, length_ranked earlier strictly (heap_items s.heap), s.heap.«data».ok.0, s.short, c.len.ensures, c.as_slice.ensures.len)
-
-pub invariant_of-self : goal.invariant_of-self
-invariant_of-self c =
-    let s = c.args.self.now in
-    let e : c.as_slice.result.now ≡ ranked earlier (heap_items s.heap) = c.as_slice.ensures.value ∙ c.pop_all.ensures.out in
-    let n : length c.as_slice.result.now ≤ 512 = omega (arith, ap length e, length_ranked earlier strictly (heap_items s.heap), s.heap.«data».ok.0, s.short) in
-    let m : c.len.result ≡ length c.as_slice.result.now = c.len.ensures ∙ sym c.as_slice.ensures.len in
-    let a = sound_moved _ _ _ _ m refl c.spread_back.ensures.sound in
-    record {
-      roomy = omega (arith, c.spread_back.ensures.cap, c.pop_all.ensures.caps.0, s.roomy);
-      roomier = omega (arith, c.pop_all.ensures.caps.1, c.clear.ensures.capacity, s.roomier);
-      short = omega (arith, c.spread_back.ensures.len);
-      few = s.few;
-      aged = omega arith;
-      young = a.0;
-      built = a.1;
-      apart = a.2;
-    }
+    let v = c.args.v in
+    let k = c.args.c in
+    ap (λ l. holding l (contents_of s))
+    (c.change.ensures.held (λ (x : Held). Some (joins v k x)) (search rules) (λ x. ap key_of (joins_message v k x)) ∙ all_given (joins v k) s.queue.held)

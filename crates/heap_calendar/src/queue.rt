@@ -1,0 +1,174 @@
+// Held messages in a binary heap of slots, by key and then older put first.
+ghost use Rattle.std.specs.Prelude.{◌≡◌, ◌+◌, ◌<◌, ◌≤◌, [], length, Option, vec_capacity, IfOk};
+ghost use Rattle.std.specs.BinaryHeap.{heap_capacity, heap_items, heap_len, IsHeap};
+ghost use Rattle.std.specs.Coded.{codes};
+ghost use Rattle.std.specs.List.{filter_map, slice_get};
+ghost use Rattle.event.specs.Lists.{insert, first, rest, Sorted};
+ghost use Rattle.calendar.specs.declared.Held.{Held};
+ghost use Rattle.calendar.specs.Calls.{key_of_held, leading, waiting};
+ghost use Rattle.slot.specs.Rank.{ranked};
+ghost use Rattle.slot.specs.Slots.{earlier, turned, in_order};
+ghost use Rattle.slot.proofs.Holds.{in_order_sorted};
+ghost use Rattle.heap_calendar.specs.Changes.{Gives, KeepsKeys};
+ghost use Rattle.heap_calendar.specs.Line.{Line, sorted_prop, fits_in_order};
+ghost use Rattle.heap_calendar.specs.Totals.{Sound};
+
+use crate::store::CAPACITY;
+use calendar::Held;
+use slot::Slot;
+use slot::order::comes_before;
+use slot::pick::nth;
+use std::alloc::{AllocError, Global};
+use std::collections::BinaryHeap;
+use std::marker::Model;
+
+// `next` is the age of the next put. There is room for 512, so no call allocates after `new`.
+#[derive(Drop)]
+pub(crate) struct Queue {
+    heap: BinaryHeap<Slot>,
+    next: u32,
+    ghost short: { heap_len heap ≤ 512 },
+}
+
+// Callers see what is held, in order, and the age of the next put.
+impl Model for Queue {
+    ghost Value = { Line };
+
+    ghost coded = { Prim.hlevel (codes, sorted_prop) };
+
+    ghost view = { λ q. record { held = in_order (heap_items q.heap); next = q.next; fits = fits_in_order q.heap q.short; sorted = in_order_sorted (heap_items q.heap) } };
+
+    ghost invariant = { λ q. (512 ≤ heap_capacity q.heap) × Sound q.next (heap_items q.heap) };
+}
+
+impl Queue {
+    pub(crate) fn new(memory: Global) -> Result<Queue, AllocError>
+        ensures held { IfOk result (λ q. q.held ≡ []) }
+        ensures next { IfOk result (λ q. q.next ≡ 0) }
+    {
+        Ok(Queue {
+            heap: BinaryHeap::with_capacity(memory, CAPACITY)?,
+            next: 0,
+        })
+    }
+
+    pub(crate) fn len(&self) -> usize
+        ensures { result ≡ length self.now.held }
+    {
+        self.heap.len()
+    }
+
+    // Goes behind those with its key.
+    pub(crate) fn push(&mut self, h: Held)
+        requires room { length self.old.held < 512 }
+        requires ages { self.old.next < 4294967295 }
+        ensures held { self.new.held ≡ insert key_of_held h self.old.held }
+        ensures next { self.new.next ≡ self.old.next + 1 }
+    {
+        let slot = Slot {
+            held: h,
+            age: self.next,
+        };
+        self.heap.push(slot).unwrap();
+        self.next += 1;
+    }
+
+    // Tells and removes the first.
+    pub(crate) fn pop(&mut self) -> Option<Held>
+        ensures told { result ≡ first self.old.held }
+        ensures held { self.new.held ≡ rest self.old.held }
+        ensures next { self.new.next ≡ self.old.next }
+    {
+        self.heap.pop().map(|s| s.held)
+    }
+
+    pub(crate) fn clear(&mut self)
+        ensures held { self.new.held ≡ [] }
+        ensures next { self.new.next ≡ 0 }
+    {
+        self.heap.clear();
+        self.next = 0;
+    }
+
+    // Number i, from 0, of those with the smallest key.
+    pub(crate) fn look(&self, i: usize) -> Option<Held>
+        ensures { result ≡ slice_get (leading self.now.held) i }
+    {
+        let all = self.heap.as_slice();
+        let first = all.first()?;
+        let key = first.held.key();
+        let alike = |s: &Slot| key == s.held.key();
+        match i {
+            0 => Some(first.held),
+            1 => second(all).filter(alike).map(|s| s.held),
+            _ => nth(all, alike, i).map(|s| s.held),
+        }
+    }
+
+    // Number i, from 0, of those that wait for v.
+    pub(crate) fn peek(&self, v: u8, i: usize) -> Option<Held>
+        ensures { result ≡ slice_get (waiting v self.now.held) i }
+    {
+        nth(self.heap.as_slice(), |s| s.held.group.has(v), i).map(|s| s.held)
+    }
+
+    // Makes of each what f gives, in order, and drops those of which it gives none. The ages begin anew; `spare` holds all meanwhile.
+    pub(crate) fn change<F: Fn(&Held) -> Option<Held>>(&mut self, spare: &mut Vec<Held>, f: F)
+        requires callable { F.IsAlwaysCallable f }
+        requires room { 512 ≤ vec_capacity spare.old }
+        ensures held { (g : Held → Option Held) → Gives F.Fn f g → KeepsKeys g → self.new.held ≡ filter_map g self.old.held }
+        ensures next { self.new.next ≤ 512 }
+        ensures capacity { vec_capacity spare.new ≡ vec_capacity spare.old }
+    {
+        self.drain(spare);
+        self.put_back(spare.as_slice(), f);
+    }
+
+    // Takes all out, first to last.
+    fn drain(&mut self, out: &mut Vec<Held>)
+        requires room { 512 ≤ vec_capacity out.old }
+        ensures out { out.new.items ≡ self.old.held }
+        ensures held { self.new.held ≡ [] }
+        ensures next { self.new.next ≡ 0 }
+        ensures capacity { vec_capacity out.new ≡ vec_capacity out.old }
+    {
+        out.clear();
+        while let Some(h) = self.pop() {
+            out.push_reserved(h);
+        }
+        self.clear();
+    }
+
+    // Puts in what f gives of each, where all are in order.
+    fn put_back<F: Fn(&Held) -> Option<Held>>(&mut self, all: &[Held], f: F)
+        requires callable { F.IsAlwaysCallable f }
+        requires none { self.old.held ≡ [] }
+        requires ages { self.old.next ≡ 0 }
+        requires room { length all.now ≤ 512 }
+        requires sorted { Sorted key_of_held all.now }
+        ensures held { (g : Held → Option Held) → Gives F.Fn f g → KeepsKeys g → self.new.held ≡ filter_map g all.now }
+        ensures next { self.new.next ≤ 512 }
+    {
+        for h in all {
+            if let Some(changed) = f(h) {
+                self.push(changed);
+            }
+        }
+    }
+}
+
+// The second in order: the earlier child of the root.
+fn second(all: &[Slot]) -> Option<Slot>
+    requires { IsHeap turned all.now }
+    ensures { result ≡ slice_get (ranked earlier all.now) 1 }
+{
+    match all {
+        [_, left, right, ..] => Some(if comes_before(right, left) {
+            *right
+        } else {
+            *left
+        }),
+        [_, left] => Some(*left),
+        _ => None,
+    }
+}
