@@ -1,6 +1,4 @@
 pub mod Cuts
-pub mod Digits
-pub mod Fields
-pub mod Turns
+pub mod Words
 pub mod Soundness
 pub mod ReadBack

@@ -1,28 +1,27 @@
--- Every start of a plan is milk at one of its farms, and has its line.
-use Rattle.std.proofs.Common.{◌≡◌, ℕ, ◌+◌, ◌≤◌, cond, ◌&&◌, leb, ◌⊎◌, List, [], ◌∷◌, ◌++◌, length, IfOk, Some, None, Ok, Err, Option, Result, sym, refl, ap, ◌∙◌, subst, inl, inr, MatchOption}
+-- Every milking of a plan is at one of its farms.
+use Rattle.std.proofs.Common.{◌≡◌, ℕ, ◌≤◌, cond, ◌&&◌, leb, ◌⊎◌, List, [], ◌∷◌, ◌++◌, IfOk, IfSome, Some, None, Ok, Err, Option, Result, sym, refl, subst, inl, inr, MatchOption}
 use Rattle.std.specs.List.{AllByRecursion}
 use Rattle.std.proofs.ByRecursion.{All-push}
-use Rattle.std.proofs.lemmas.List.{length_push}
 use Rattle.std.proofs.lemmas.Bool.{cond_both, and_parts, leb-true}
-use Rattle.event.specs.declared.Start.{Start}
 use Rattle.dayfile.specs.declared.flaw.Flaw.{Flaw}
 use Rattle.dayfile.specs.declared.flaw.FlawKind.{FlawKind}
 use Rattle.dayfile.specs.declared.flaw.FlawKind.TheVariants.{NotANumber, OutOfRange, FarmsMissing, TankersMissing, EndMissing}
 use Rattle.dayfile.specs.declared.line.Settings.{Settings}
 use Rattle.dayfile.specs.declared.line.Entry.{Entry}
-use Rattle.dayfile.specs.declared.line.Entry.TheVariants.{Nothing, Set, Milked}
+use Rattle.dayfile.specs.declared.line.Entry.TheVariants.{Set, Milked}
+use Rattle.dayfile.specs.declared.plan.Milking.{Milking}
 use Rattle.dayfile.specs.declared.plan.Plan.{Plan}
 use Rattle.dayfile.specs.declared.word.Keyword.{Keyword}
 use Rattle.dayfile.specs.declared.word.Keyword.TheVariants as key
 use Rattle.dayfile.specs.Text.{lines_of, said, words_of}
 use Rattle.dayfile.specs.Words.{keyword_of, is_number, value_of, number_of}
-use Rattle.dayfile.specs.Lines.{then, next, only_number_of, once, moment_of, milking_of, milked_by, entry_for, entry_under, entry_of}
+use Rattle.dayfile.specs.Lines.{and_then, next, only_number_of, once, moment_of, milking_of, milked_by, entry_for, entry_of}
 use Rattle.dayfile.specs.Plans.{Told, Sheet, nothing_told, noted, at_line, step, needed, finished, read_on, read_text}
 use Rattle.dayfile.specs.Held.{sheet_of, answer, OutOfMemory}
 use Rattle.dayfile.specs.Laws.{Farmed, Sound}
 
 -- what holds of a value that is read on holds at the end
-made_then : {X Y E : Type 0} (P : X → Type 0) (Q : Y → Type 0) (r : Result X E) (more : X → Result Y E) → IfOk r P → ((x : X) → P x → IfOk (more x) Q) → IfOk (then r more) Q
+made_then : {X Y E : Type 0} (P : X → Type 0) (Q : Y → Type 0) (r : Result X E) (more : X → Result Y E) → IfOk r P → ((x : X) → P x → IfOk (more x) Q) → IfOk (and_then r more) Q
 made_then P Q (Ok x) more p f = f x p
 made_then P Q (Err e) more p f = tt
 
@@ -35,9 +34,10 @@ made_any : {X E : Type 0} (r : Result X E) → IfOk r (λ _. Unit {0})
 made_any (Ok x) = tt
 made_any (Err e) = tt
 
-made_once : {X : Type 0} (Q : X → Type 0) (o : Option ℕ) (r : Result X FlawKind) → (o ≡ None → IfOk r Q) → IfOk (once o r) Q
-made_once Q None r f = f refl
-made_once Q (Some n) r f = tt
+made_once : {T X : Type 0} (o : Option T) (r : Result X FlawKind) → IfOk (once o r) (λ _. o ≡ None)
+made_once None (Ok x) = refl
+made_once None (Err k) = tt
+made_once (Some n) r = tt
 
 made_number : (low high : ℕ) (w : List ℕ) → IfOk (number_of low high w) (λ n. (low ≤ n) × (n ≤ high))
 made_number low high w =
@@ -55,84 +55,78 @@ made_milking farms ws =
 
 -- farms are given once, and milk comes to one of them
 abbrev Fits : Settings → Entry → Type 0
-Fits s Nothing = Unit {0}
 Fits s (Set t) = (t.farms ≡ s.farms) ⊎ (s.farms ≡ None)
 Fits s (Milked m) = MatchOption s.farms ⊥ (λ f. Farmed f m)
 
-made_set : (s : Settings) (r : Result Settings FlawKind) → IfOk r (λ t. Fits s (Set t)) → IfOk (then r (λ t. Ok (Set t))) (Fits s)
+made_set : (s : Settings) (r : Result Settings FlawKind) → IfOk r (λ t. Fits s (Set t)) → IfOk (and_then r (λ t. Ok (Set t))) (Fits s)
 made_set s r h = made_then (λ t. Fits s (Set t)) (Fits s) r (λ t. Ok (Set t)) h (λ t h. h)
 
 made_by : (s : Settings) (k : Keyword) (ws : List (List ℕ)) → IfOk (entry_for s k ws) (Fits s)
 made_by s key.Farms ws =
-    made_set s _ (made_once _ s.farms _ (λ e. made_then (λ _. Unit {0}) (λ t. Fits s (Set t)) (only_number_of 255 ws) _ (made_any _) (λ n _. inr e)))
+    made_set s _ (made_then (λ _. s.farms ≡ None) (λ t. Fits s (Set t)) (once s.farms (only_number_of 255 ws)) _ (made_once s.farms _) (λ n e. inr e))
 made_by s key.Tankers ws =
-    made_set s _ (made_once _ s.tankers _ (λ e. made_then (λ _. Unit {0}) (λ t. Fits s (Set t)) (only_number_of 255 ws) _ (made_any _) (λ n _. inl refl)))
+    made_set s _ (made_then (λ _. Unit {0}) (λ t. Fits s (Set t)) (once s.tankers (only_number_of 255 ws)) _ (made_any _) (λ n _. inl refl))
 made_by s key.End ws =
-    made_set s _ (made_once _ s.end _ (λ e. made_then (λ _. Unit {0}) (λ t. Fits s (Set t)) (only_number_of 4294967295 ws) _ (made_any _) (λ n _. inl refl)))
+    made_set s _ (made_then (λ _. Unit {0}) (λ t. Fits s (Set t)) (once s.end (only_number_of 4294967295 ws)) _ (made_any _) (λ n _. inl refl))
 made_by s key.Milked ws = made_then (λ m. Fits s (Milked m)) (Fits s) (milked_by s.farms ws) (λ m. Ok (Milked m)) (go s.farms) (λ m h. h)
   where
     go : (o : Option ℕ) → IfOk (milked_by o ws) (λ m. MatchOption o ⊥ (λ f. Farmed f m))
     go None = tt
     go (Some f) = made_milking f ws
 
-made_under : (s : Settings) (o : Option Keyword) (ws : List (List ℕ)) → IfOk (entry_under s o ws) (Fits s)
-made_under s None ws = tt
-made_under s (Some k) ws = made_by s k ws
-
-made_entry : (s : Settings) (ws : List (List ℕ)) → IfOk (entry_of s ws) (Fits s)
+made_entry : (s : Settings) (ws : List (List ℕ)) → IfOk (entry_of s ws) (λ o. IfSome o (Fits s))
 made_entry s [] = tt
-made_entry s (w ∷ ws) = made_under s (keyword_of w) ws
+made_entry s (w ∷ ws) =
+    made_then (λ _. Unit {0}) (λ o. IfSome o (Fits s)) (keyword_of w) _ (made_any _) (λ k _. made_then (Fits s) (λ o. IfSome o (Fits s)) (entry_for s k ws) (λ e. Ok (Some e)) (made_by s k ws) (λ e h. h))
 
 made_at : {X : Type 0} (P : X → Type 0) (n : ℕ) (r : Result X FlawKind) → IfOk r P → IfOk (at_line n r) P
 made_at P n (Ok x) h = h
 made_at P n (Err k) h = tt
 
--- the starts so far are milk at the farms given, and have their lines
-abbrev Held : Option ℕ → List Start → Type 0
-Held farms starts = MatchOption farms (starts ≡ []) (λ f. AllByRecursion (Farmed f) starts)
+-- the milkings so far are at the farms given
+abbrev Held : Option ℕ → List Milking → Type 0
+Held farms ms = MatchOption farms (ms ≡ []) (λ f. AllByRecursion (λ m. Farmed f m.start) ms)
 
-record Kept (t : Told) : Type 0 where
-  held : Held t.settings.farms t.starts
-  lined : length t.lines ≡ length t.starts
+abbrev Kept : Told → Type 0
+Kept t = Held t.settings.farms t.milkings
 
-held_none : (o : Option ℕ) (starts : List Start) → Held None starts → Held o starts
-held_none None starts h = h
-held_none (Some f) starts h = subst (AllByRecursion (Farmed f)) (sym h) tt
+held_none : (o : Option ℕ) (ms : List Milking) → Held None ms → Held o ms
+held_none None ms h = h
+held_none (Some f) ms h = subst (AllByRecursion (λ m. Farmed f m.start)) (sym h) tt
 
-held_more : (o : Option ℕ) (starts : List Start) (m : Start) → Held o starts → MatchOption o ⊥ (λ f. Farmed f m) → Held o (starts ++ m ∷ [])
-held_more None starts m h k = absurd k
-held_more (Some f) starts m h k = All-push (Farmed f) starts m h k
+held_more : (o : Option ℕ) (ms : List Milking) (m : Milking) → Held o ms → MatchOption o ⊥ (λ f. Farmed f m.start) → Held o (ms ++ m ∷ [])
+held_more None ms m h k = absurd k
+held_more (Some f) ms m h k = All-push (λ m. Farmed f m.start) ms m h k
 
-kept_noted : (n : ℕ) (t : Told) (e : Entry) → Fits t.settings e → Kept t → Kept (noted n t e)
-kept_noted n t Nothing h k = k
-kept_noted n t (Set s) (inl e) k = record { held = subst (λ (o : Option ℕ). Held o t.starts) (sym e) k.held; lined = k.lined }
-kept_noted n t (Set s) (inr e) k = record { held = held_none s.farms t.starts (subst (λ (o : Option ℕ). Held o t.starts) e k.held); lined = k.lined }
-kept_noted n t (Milked m) h k =
-    record { held = held_more t.settings.farms t.starts m k.held h; lined = length_push t.lines n ∙ ap (λ i. i + 1) k.lined ∙ sym (length_push t.starts m) }
+kept_noted : (t : Told) (o : Option Entry) → IfSome o (Fits t.settings) → Kept t → Kept (noted t o)
+kept_noted t None h k = k
+kept_noted t (Some (Set s)) (inl e) k = subst (λ (o : Option ℕ). Held o t.milkings) (sym e) k
+kept_noted t (Some (Set s)) (inr e) k = held_none s.farms t.milkings (subst (λ (o : Option ℕ). Held o t.milkings) e k)
+kept_noted t (Some (Milked m)) h k = held_more t.settings.farms t.milkings (record { line = t.line; start = m }) k h
 
-made_step : (n : ℕ) (t : Told) (line : List ℕ) → Kept t → IfOk (step n t line) Kept
-made_step n t line k =
-    made_then (Fits t.settings) Kept (at_line n (entry_of t.settings (words_of (said line)))) (λ e. Ok (noted n t e)) (made_at (Fits t.settings) n (entry_of t.settings (words_of (said line))) (made_entry t.settings (words_of (said line))))
-    (λ e h. kept_noted n t e h k)
+made_step : (t : Told) (line : List ℕ) → Kept t → IfOk (step t line) Kept
+made_step t line k =
+    made_then (λ o. IfSome o (Fits t.settings)) Kept (at_line t.line (entry_of t.settings (words_of (said line)))) (λ e. Ok (noted t e)) (made_at (λ o. IfSome o (Fits t.settings)) t.line (entry_of t.settings (words_of (said line))) (made_entry t.settings (words_of (said line))))
+    (λ e h. kept_noted t e h k)
 
 made_needed : (k : FlawKind) (o : Option ℕ) → IfOk (needed k o) (λ n. o ≡ Some n)
 made_needed k None = tt
 made_needed k (Some n) = refl
 
-made_finished : (n : ℕ) (t : Told) → Kept t → IfOk (finished n t) Sound
-made_finished n t k =
-    made_at Sound n _
+made_finished : (t : Told) → Kept t → IfOk (finished t) Sound
+made_finished t k =
+    made_at Sound t.line _
     (made_then (λ f. t.settings.farms ≡ Some f) Sound (needed FarmsMissing t.settings.farms) _ (made_needed FarmsMissing t.settings.farms)
     (λ f e. made_then (λ _. Unit {0}) Sound (needed TankersMissing t.settings.tankers) _ (made_any _)
     (λ _ _. made_then (λ _. Unit {0}) Sound (needed EndMissing t.settings.end) _ (made_any _)
-    (λ _ _. record { farmed = subst (λ (o : Option ℕ). Held o t.starts) e k.held; lined = k.lined }))))
+    (λ _ _. record { farmed = subst (λ (o : Option ℕ). Held o t.milkings) e k }))))
 
-made_read_on : (n : ℕ) (t : Told) (ls : List (List ℕ)) → Kept t → IfOk (read_on n t ls) Sound
-made_read_on n t [] k = made_finished n t k
-made_read_on n t (l ∷ ls) k = made_then Kept Sound (step n t l) (λ t. read_on (n + 1) t ls) (made_step n t l k) (λ t k. made_read_on (n + 1) t ls k)
+made_read_on : (t : Told) (ls : List (List ℕ)) → Kept t → IfOk (read_on t ls) Sound
+made_read_on t [] k = made_finished t k
+made_read_on t (l ∷ ls) k = made_then Kept Sound (step t l) (λ t. read_on t ls) (made_step t l k) (λ t k. made_read_on t ls k)
 
 -- the plan of a text
 pub sound_answer : (text : List ℕ) (r : Result Plan Flaw) → OutOfMemory r ⊎ (answer r ≡ read_text text) → IfOk r (λ p. Sound (sheet_of p))
 sound_answer text (Ok p) (inl m) = absurd m
-sound_answer text (Ok p) (inr e) = subst (λ (r : Result Sheet Flaw). IfOk r Sound) (sym e) (made_read_on 1 nothing_told (lines_of text) (record { held = refl; lined = refl }))
+sound_answer text (Ok p) (inr e) = subst (λ (r : Result Sheet Flaw). IfOk r Sound) (sym e) (made_read_on nothing_told (lines_of text) refl)
 sound_answer text (Err f) h = tt

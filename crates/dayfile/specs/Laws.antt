@@ -1,5 +1,5 @@
 -- What holds of every plan that is read.
-use Rattle.std.specs.Prelude.{◌≡◌, ℕ, ◌≤◌, length}
+use Rattle.std.specs.Prelude.{◌≡◌, ℕ, ◌≤◌}
 use Rattle.std.specs.List.{AllByRecursion}
 use Rattle.event.specs.declared.Start.{Start}
 use Rattle.dayfile.specs.Plans.{Sheet}
@@ -10,7 +10,6 @@ pub record Farmed (farms : ℕ) (m : Start) : Type 0 where
   pub most : m.receiver ≤ farms
   pub kind : m.kind ≡ 0
 
--- every start tells milk to a farm of the plan, and has its line
+-- every milking is at a farm of the plan
 pub record Sound (s : Sheet) : Type 0 where
-  pub farmed : AllByRecursion (Farmed s.farms) s.starts
-  pub lined : length s.lines ≡ length s.starts
+  pub farmed : AllByRecursion (λ m. Farmed s.farms m.start) s.milkings

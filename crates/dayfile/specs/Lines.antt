@@ -1,9 +1,9 @@
 -- What a line says: nothing, a setting of the day, or a milking.
-use Rattle.std.specs.Prelude.{ℕ, cond, List, [], ◌∷◌, Some, None, Ok, Err, codes, Option, Result}
+use Rattle.std.specs.Prelude.{ℕ, if◌then◌else◌, List, [], ◌∷◌, Some, None, Ok, Err, codes, Option, Result}
 use Rattle.std.specs.Str.{bytes_eq}
 use Rattle.event.specs.declared.Start.{Start}
 use Rattle.dayfile.specs.declared.flaw.FlawKind.{FlawKind}
-use Rattle.dayfile.specs.declared.flaw.FlawKind.TheVariants.{UnknownWord, TooFewWords, TooManyWords, AtMissing, GivenTwice, MilkedBeforeFarms}
+use Rattle.dayfile.specs.declared.flaw.FlawKind.TheVariants.{TooFewWords, TooManyWords, AtMissing, GivenTwice, MilkedBeforeFarms}
 use Rattle.dayfile.specs.declared.line.Settings.{Settings}
 use Rattle.dayfile.specs.declared.line.Entry.{Entry}
 use Rattle.dayfile.specs.declared.line.Entry.TheVariants as entry
@@ -12,14 +12,14 @@ use Rattle.dayfile.specs.declared.word.Keyword.TheVariants as key
 use Rattle.dayfile.specs.Words.{keyword_of, number_of}
 
 -- what is read goes on, and a flaw stays a flaw
-abbrev pub then : {X Y E : Type 0} → Result X E → (X → Result Y E) → Result Y E
-then (Ok x) more = more x
-then (Err e) more = Err e
+abbrev pub and_then : {X Y E : Type 0} → Result X E → (X → Result Y E) → Result Y E
+and_then (Ok x) more = more x
+and_then (Err e) more = Err e
 
 -- the first word is read, and more is made of it and of the words after it
 abbrev pub next : {X Y : Type 0} → (List ℕ → Result X FlawKind) → List (List ℕ) → (X → List (List ℕ) → Result Y FlawKind) → Result Y FlawKind
 next read [] more = Err TooFewWords
-next read (w ∷ ws) more = then (read w) (λ x. more x ws)
+next read (w ∷ ws) more = and_then (read w) (λ x. more x ws)
 
 -- a number and the words after it
 abbrev pub paired : ℕ → List (List ℕ) → Result (ℕ × List (List ℕ)) FlawKind
@@ -32,7 +32,7 @@ ended x (w ∷ ws) = Err TooManyWords
 
 -- the word "at"
 abbrev pub at_word : List ℕ → Result (List ℕ) FlawKind
-at_word w = cond (bytes_eq w (codes "at")) (Ok w) (Err AtMissing)
+at_word w = if bytes_eq w (codes "at") then Ok w else Err AtMissing
 
 -- one number up to high, and nothing more
 abbrev pub only_number_of : ℕ → List (List ℕ) → Result ℕ FlawKind
@@ -47,24 +47,24 @@ abbrev pub milking_of : ℕ → List (List ℕ) → Result Start FlawKind
 milking_of farms ws =
     next (number_of 1 farms) ws (λ farm ws.
     next (number_of 0 4294967295) ws (λ litres ws.
-    then (moment_of ws) (λ time. Ok (record { time = time; receiver = farm; kind = 0; «data» = litres }))))
+    and_then (moment_of ws) (λ time. Ok (record { time = time; receiver = farm; kind = 0; «data» = litres }))))
 
 -- what was given before is given twice
-abbrev pub once : {X : Type 0} → Option ℕ → Result X FlawKind → Result X FlawKind
+abbrev pub once : {T X : Type 0} → Option T → Result X FlawKind → Result X FlawKind
 once None given = given
 once (Some n) given = Err GivenTwice
 
 -- farms N
 abbrev pub farms_set : Settings → List (List ℕ) → Result Settings FlawKind
-farms_set s ws = once s.farms (then (only_number_of 255 ws) (λ n. Ok (record { farms = Some n; tankers = s.tankers; end = s.end })))
+farms_set s ws = and_then (once s.farms (only_number_of 255 ws)) (λ n. Ok (record { farms = Some n; tankers = s.tankers; end = s.end }))
 
 -- tankers N
 abbrev pub tankers_set : Settings → List (List ℕ) → Result Settings FlawKind
-tankers_set s ws = once s.tankers (then (only_number_of 255 ws) (λ n. Ok (record { farms = s.farms; tankers = Some n; end = s.end })))
+tankers_set s ws = and_then (once s.tankers (only_number_of 255 ws)) (λ n. Ok (record { farms = s.farms; tankers = Some n; end = s.end }))
 
 -- end N
 abbrev pub end_set : Settings → List (List ℕ) → Result Settings FlawKind
-end_set s ws = once s.end (then (only_number_of 4294967295 ws) (λ n. Ok (record { farms = s.farms; tankers = s.tankers; end = Some n })))
+end_set s ws = and_then (once s.end (only_number_of 4294967295 ws)) (λ n. Ok (record { farms = s.farms; tankers = s.tankers; end = Some n }))
 
 -- milked FARM LITRES at TIME, after farms
 abbrev pub milked_by : Option ℕ → List (List ℕ) → Result Start FlawKind
@@ -73,17 +73,12 @@ milked_by (Some farms) ws = milking_of farms ws
 
 -- the words after a keyword
 abbrev pub entry_for : Settings → Keyword → List (List ℕ) → Result Entry FlawKind
-entry_for s key.Farms ws = then (farms_set s ws) (λ t. Ok (entry.Set t))
-entry_for s key.Tankers ws = then (tankers_set s ws) (λ t. Ok (entry.Set t))
-entry_for s key.End ws = then (end_set s ws) (λ t. Ok (entry.Set t))
-entry_for s key.Milked ws = then (milked_by s.farms ws) (λ m. Ok (entry.Milked m))
+entry_for s key.Farms ws = and_then (farms_set s ws) (λ t. Ok (entry.Set t))
+entry_for s key.Tankers ws = and_then (tankers_set s ws) (λ t. Ok (entry.Set t))
+entry_for s key.End ws = and_then (end_set s ws) (λ t. Ok (entry.Set t))
+entry_for s key.Milked ws = and_then (milked_by s.farms ws) (λ m. Ok (entry.Milked m))
 
--- the words after the first
-abbrev pub entry_under : Settings → Option Keyword → List (List ℕ) → Result Entry FlawKind
-entry_under s None ws = Err UnknownWord
-entry_under s (Some k) ws = entry_for s k ws
-
--- what the words of a line say, where the lines before it have set s
-abbrev pub entry_of : Settings → List (List ℕ) → Result Entry FlawKind
-entry_of s [] = Ok entry.Nothing
-entry_of s (w ∷ ws) = entry_under s (keyword_of w) ws
+-- what the words of a line say, if anything, where the lines before it have set s
+abbrev pub entry_of : Settings → List (List ℕ) → Result (Option Entry) FlawKind
+entry_of s [] = Ok None
+entry_of s (w ∷ ws) = and_then (keyword_of w) (λ k. and_then (entry_for s k ws) (λ e. Ok (Some e)))

@@ -1,19 +1,20 @@
 -- What a word says: the keyword that begins a line, or a number.
-use Rattle.std.specs.Prelude.{ℕ, ◌+◌, ◌-◌, ◌*◌, Bool, cond, ◌&&◌, List, Some, None, Ok, Err, codes, fold, Option, Result, nat_le}
+use Rattle.std.specs.Prelude.{ℕ, ◌+◌, ◌-◌, ◌*◌, Bool, if◌then◌else◌, ◌&&◌, List, Ok, Err, codes, fold, Result, nat_le}
 use Rattle.std.specs.Str.{bytes_eq, all_ascii_digits}
 use Rattle.dayfile.specs.declared.flaw.FlawKind.{FlawKind}
-use Rattle.dayfile.specs.declared.flaw.FlawKind.TheVariants.{NotANumber, OutOfRange}
+use Rattle.dayfile.specs.declared.flaw.FlawKind.TheVariants.{UnknownWord, NotANumber, OutOfRange}
 use Rattle.dayfile.specs.declared.word.Keyword.{Keyword}
 use Rattle.dayfile.specs.declared.word.Keyword.TheVariants.{Farms, Tankers, End, Milked}
 use Rattle.dayfile.specs.Text.{some}
 
 -- the word is one of four, letter by letter
-abbrev pub keyword_of : List ℕ → Option Keyword
+abbrev pub keyword_of : List ℕ → Result Keyword FlawKind
 keyword_of word =
-    cond (bytes_eq word (codes "farms")) (Some Farms)
-    (cond (bytes_eq word (codes "tankers")) (Some Tankers)
-    (cond (bytes_eq word (codes "end")) (Some End)
-    (cond (bytes_eq word (codes "milked")) (Some Milked) None)))
+    if bytes_eq word (codes "farms") then Ok Farms
+    else if bytes_eq word (codes "tankers") then Ok Tankers
+    else if bytes_eq word (codes "end") then Ok End
+    else if bytes_eq word (codes "milked") then Ok Milked
+    else Err UnknownWord
 
 -- one or more decimal digits, and nothing else
 abbrev pub is_number : List ℕ → Bool
@@ -25,4 +26,6 @@ value_of word = fold (λ n c. n * 10 + (c - 48)) 0 word
 
 -- a number from low to high
 abbrev pub number_of : ℕ → ℕ → List ℕ → Result ℕ FlawKind
-number_of low high word = cond (is_number word) (cond (nat_le low (value_of word) && nat_le (value_of word) high) (Ok (value_of word)) (Err OutOfRange)) (Err NotANumber)
+number_of low high word =
+    if is_number word then (if nat_le low (value_of word) && nat_le (value_of word) high then Ok (value_of word) else Err OutOfRange)
+    else Err NotANumber

@@ -40,7 +40,7 @@ impl FlawKind {
         Flaw { line, kind: self }
     }
 
-    // What is wrong, in plain words.
+    // What is wrong, in plain words, as a text that costs no allocation and no failure.
     pub fn words(self) -> &'static str
         ensures { result.now ≡ wording self }
     {
@@ -61,13 +61,19 @@ impl FlawKind {
     }
 }
 
-impl fmt::Display for Flaw {
-    ghost output = { λ f. Some (message f) };
+impl fmt::Display for FlawKind {
+    ghost output = { λ kind. Some (wording kind) };
 
     fn fmt<W: fmt::Write>(&self, f: &mut fmt::Formatter<W>) -> fmt::Result {
-        let line = self.line;
-        let words = self.kind.words();
-        write!(f, "line {line}: {words}")
+        f.write_str(self.words())
+    }
+}
+
+impl fmt::Display for Flaw {
+    ghost output = { λ flaw. Some (message flaw) };
+
+    fn fmt<W: fmt::Write>(&self, f: &mut fmt::Formatter<W>) -> fmt::Result {
+        write!(f, "line {}: {}", self.line, self.kind)
     }
 }
 

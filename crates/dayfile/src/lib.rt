@@ -16,7 +16,7 @@ mod text;
 mod word;
 
 pub use flaw::{Flaw, FlawKind};
-pub use plan::{Plan, read};
+pub use plan::{Milking, Plan, read};
 
 #[cfg(test)]
 mod tests {
@@ -42,10 +42,34 @@ mod tests {
         let plan = read(rt.alloc(), TUESDAY.as_bytes())?;
         assert_eq!(rt; (plan.farms, plan.tankers, plan.end), (3, 1, 3000));
         assert_eq!(rt;
-            plan.starts.as_slice(),
+            plan.milkings.as_slice(),
+            [
+                Milking {
+                    line: 5,
+                    start: milk(0, 2, 1000)
+                },
+                Milking {
+                    line: 6,
+                    start: milk(5, 1, 500)
+                },
+                Milking {
+                    line: 7,
+                    start: milk(5, 3, 500)
+                },
+            ]
+            .as_slice()
+        );
+        Ok(())
+    }
+
+    #[test]
+    fn the_starts_of_a_plan_stand_in_its_sequence(rt: HostRuntime) -> Result<(), Fail> {
+        let plan = read(rt.alloc(), TUESDAY.as_bytes())?;
+        let starts = plan.starts(rt.alloc())?;
+        assert_eq!(rt;
+            starts.as_slice(),
             [milk(0, 2, 1000), milk(5, 1, 500), milk(5, 3, 500)].as_slice()
         );
-        assert_eq!(rt; plan.lines.as_slice(), [5, 6, 7].as_slice());
         Ok(())
     }
 
@@ -54,15 +78,12 @@ mod tests {
         let text = "\tfarms 1 # one\r\n\r\n  # nothing\nend\t4294967295#\n tankers  255";
         let plan = read(rt.alloc(), text.as_bytes())?;
         assert_eq!(rt; (plan.farms, plan.tankers, plan.end), (1, 255, 4294967295));
-        assert_eq!(rt; plan.starts.len(), 0);
+        assert_eq!(rt; plan.milkings.len(), 0);
         Ok(())
     }
 
     fn flaw_of(heap: Global, text: &str) -> Option<Flaw> {
-        match read(heap, text.as_bytes()) {
-            Ok(_) => None,
-            Err(flaw) => Some(flaw),
-        }
+        read(heap, text.as_bytes()).err()
     }
 
     #[test]

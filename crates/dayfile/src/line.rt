@@ -3,157 +3,133 @@ ghost use Rattle.std.specs.Prelude.{◌≡◌, ◌≤◌, IfOk};
 ghost use Rattle.dayfile.specs.Text.{said, words_of};
 ghost use Rattle.dayfile.specs.Words.{number_of};
 ghost use Rattle.dayfile.specs.Held.{behind};
-ghost use Rattle.dayfile.specs.Lines.{next, paired, only_number_of, moment_of, milking_of, farms_set, tankers_set, end_set, entry_for, entry_of};
+ghost use Rattle.dayfile.specs.Lines.{next, paired, only_number_of, moment_of, milking_of, once, entry_for, entry_of};
 
 use crate::flaw::FlawKind;
-use crate::text::{Mark, cut, first_word};
-use crate::word::{Keyword, number, reads};
+use crate::text::Words;
+use crate::word::{Keyword, number};
+use collection::Kind;
 use event::Start;
 
-// The kind of a message that tells a farm of its milk.
-const MILKED: u8 = 0;
-
 // What the lines so far have set.
-#[derive(Clone, Copy)]
+#[derive(Clone, Copy, Default)]
 pub(crate) struct Settings {
     pub farms: Option<u8>,
     pub tankers: Option<u8>,
     pub end: Option<u32>,
 }
 
-// What one line says.
+// What one line says, where it says something.
 #[derive(Clone, Copy)]
 pub(crate) enum Entry {
-    Nothing,
     // with what it sets
     Set(Settings),
     Milked(Start),
 }
 
-// The first word as a number from `low` to `high`, and what stands after it.
-fn next_number(line: &[u8], low: u32, high: u32) -> Result<(u32, &[u8]), FlawKind>
-    ensures value { behind result ≡ next (number_of low high) (words_of line.now) paired }
-    ensures within { IfOk result (λ p. p.0 ≤ high) }
+// The next word as a number from `low` to `high`.
+fn next_number(words: &mut Words, low: u32, high: u32) -> Result<u32, FlawKind>
+    ensures value { behind result words.new ≡ next (number_of low high) words.old paired }
+    ensures within { IfOk result (λ n. n ≤ high) }
 {
-    let Some((word, rest)) = first_word(line) else {
-        return Err(FlawKind::TooFewWords);
-    };
-    let n = number(word, low, high)?;
-    Ok((n, rest))
+    let word = words.next().ok_or(FlawKind::TooFewWords)?;
+    number(word, low, high)
 }
 
 // One number up to `high`, and nothing more.
-fn only_number(line: &[u8], high: u32) -> Result<u32, FlawKind>
-    ensures value { result ≡ only_number_of high (words_of line.now) }
+fn only_number(mut words: Words, high: u32) -> Result<u32, FlawKind>
+    ensures value { result ≡ only_number_of high words.entry }
     ensures within { IfOk result (λ n. n ≤ high) }
 {
-    let (n, rest) = next_number(line, 0, high)?;
-    match first_word(rest) {
+    let n = next_number(&mut words, 0, high)?;
+    match words.next() {
         Some(_) => Err(FlawKind::TooManyWords),
         None => Ok(n),
     }
 }
 
 // "at" and a time, and nothing more.
-fn moment(line: &[u8]) -> Result<u32, FlawKind>
-    ensures { result ≡ moment_of (words_of line.now) }
+fn moment(mut words: Words) -> Result<u32, FlawKind>
+    ensures { result ≡ moment_of words.entry }
 {
-    let Some((word, rest)) = first_word(line) else {
-        return Err(FlawKind::TooFewWords);
-    };
-    if !reads(word, b"at") {
+    let word = words.next().ok_or(FlawKind::TooFewWords)?;
+    if word != b"at".as_slice() {
         return Err(FlawKind::AtMissing);
     }
-    only_number(rest, u32::MAX)
+    only_number(words, u32::MAX)
 }
 
 // A farm of the file, litres, and the moment of the milking.
-fn milking(line: &[u8], farms: u8) -> Result<Start, FlawKind>
-    ensures { result ≡ milking_of farms (words_of line.now) }
+fn milking(mut words: Words, farms: u8) -> Result<Start, FlawKind>
+    ensures { result ≡ milking_of farms words.entry }
 {
-    let (farm, rest) = next_number(line, 1, farms as u32)?;
-    let (litres, rest) = next_number(rest, 0, u32::MAX)?;
-    let time = moment(rest)?;
+    let farm = next_number(&mut words, 1, u32::from(farms))?;
+    let litres = next_number(&mut words, 0, u32::MAX)?;
+    let time = moment(words)?;
     Ok(Start {
         time,
+        // at most `farms`: a `try_from` would refuse what cannot come
         receiver: farm as u8,
-        kind: MILKED,
+        kind: Kind::Milked.into(),
         data: litres,
     })
 }
 
+// The number up to `high` of what is given once, where `before` was given before.
+fn given_once<T: Copy>(before: Option<T>, words: Words, high: u32) -> Result<u32, FlawKind>
+    ensures value { result ≡ once before (only_number_of high words.entry) }
+    ensures within { IfOk result (λ n. n ≤ high) }
+{
+    match before {
+        Some(_) => Err(FlawKind::GivenTwice),
+        None => only_number(words, high),
+    }
+}
+
 impl Settings {
-    // `farms N`
-    fn with_farms(self, line: &[u8]) -> Result<Settings, FlawKind>
-        ensures { result ≡ farms_set self (words_of line.now) }
-    {
-        if self.farms.is_some() {
-            return Err(FlawKind::GivenTwice);
-        }
-        let n = only_number(line, u8::MAX as u32)?;
-        Ok(Settings {
-            farms: Some(n as u8),
-            tankers: self.tankers,
-            end: self.end,
-        })
-    }
-
-    // `tankers N`
-    fn with_tankers(self, line: &[u8]) -> Result<Settings, FlawKind>
-        ensures { result ≡ tankers_set self (words_of line.now) }
-    {
-        if self.tankers.is_some() {
-            return Err(FlawKind::GivenTwice);
-        }
-        let n = only_number(line, u8::MAX as u32)?;
-        Ok(Settings {
-            farms: self.farms,
-            tankers: Some(n as u8),
-            end: self.end,
-        })
-    }
-
-    // `end N`
-    fn with_end(self, line: &[u8]) -> Result<Settings, FlawKind>
-        ensures { result ≡ end_set self (words_of line.now) }
-    {
-        if self.end.is_some() {
-            return Err(FlawKind::GivenTwice);
-        }
-        let n = only_number(line, u32::MAX)?;
-        Ok(Settings {
-            farms: self.farms,
-            tankers: self.tankers,
-            end: Some(n),
-        })
-    }
-
     // What a line says after its first word.
-    fn entry_by(self, keyword: Keyword, line: &[u8]) -> Result<Entry, FlawKind>
-        ensures { result ≡ entry_for self keyword (words_of line.now) }
+    fn entry_by(self, keyword: Keyword, words: Words) -> Result<Entry, FlawKind>
+        ensures { result ≡ entry_for self keyword words.entry }
     {
         match keyword {
-            Keyword::Farms => Ok(Entry::Set(self.with_farms(line)?)),
-            Keyword::Tankers => Ok(Entry::Set(self.with_tankers(line)?)),
-            Keyword::End => Ok(Entry::Set(self.with_end(line)?)),
-            Keyword::Milked => match self.farms {
-                Some(farms) => Ok(Entry::Milked(milking(line, farms)?)),
-                None => Err(FlawKind::MilkedBeforeFarms),
-            },
+            Keyword::Farms => {
+                let farms = given_once(self.farms, words, u32::from(u8::MAX))?;
+                // at most 255, as in the next arm: a `try_from` would refuse what cannot come
+                Ok(Entry::Set(Settings {
+                    farms: Some(farms as u8),
+                    ..self
+                }))
+            }
+            Keyword::Tankers => {
+                let tankers = given_once(self.tankers, words, u32::from(u8::MAX))?;
+                Ok(Entry::Set(Settings {
+                    tankers: Some(tankers as u8),
+                    ..self
+                }))
+            }
+            Keyword::End => {
+                let end = given_once(self.end, words, u32::MAX)?;
+                Ok(Entry::Set(Settings {
+                    end: Some(end),
+                    ..self
+                }))
+            }
+            Keyword::Milked => {
+                let farms = self.farms.ok_or(FlawKind::MilkedBeforeFarms)?;
+                Ok(Entry::Milked(milking(words, farms)?))
+            }
         }
     }
 
-    // What a line says where the lines before it have set this much.
-    pub(crate) fn entry(self, line: &[u8]) -> Result<Entry, FlawKind>
+    // What a line says, if anything, where the lines before it have set this much.
+    pub(crate) fn entry(self, line: &[u8]) -> Result<Option<Entry>, FlawKind>
         ensures { result ≡ entry_of self (words_of (said line.now)) }
     {
-        let (front, _) = cut(line, Mark::Hash);
-        let Some((word, rest)) = first_word(front) else {
-            return Ok(Entry::Nothing);
+        let mut words = Words::of(line);
+        let Some(word) = words.next() else {
+            return Ok(None);
         };
-        match Keyword::of(word) {
-            Some(keyword) => self.entry_by(keyword, rest),
-            None => Err(FlawKind::UnknownWord),
-        }
+        let keyword = Keyword::try_from(word)?;
+        Ok(Some(self.entry_by(keyword, words)?))
     }
 }

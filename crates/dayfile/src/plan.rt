@@ -1,15 +1,23 @@
 // The plan of a day, as its file tells it line by line.
-ghost use Rattle.std.specs.Prelude.{◌≡◌, ◌⊎◌, IfOk, Ok, Err, MatchResult, OnOk};
-ghost use Rattle.dayfile.specs.Held.{told_by, sheet_of, answer, Memory, OutOfMemory};
+ghost use Rattle.std.specs.Prelude.{◌≡◌, ◌+◌, ◌<◌, ◌^◌, ◌⊎◌, IfOk, Ok, Err, MatchResult, OnOk, map, vec_items};
+ghost use Rattle.dayfile.specs.Held.{sheet_of, answer, Memory, OutOfMemory};
 ghost use Rattle.dayfile.specs.Laws.{Sound};
 ghost use Rattle.dayfile.specs.Plans.{Sheet, noted, nothing_told, step, finished, read_text};
 ghost use Rattle.dayfile.specs.Written.{Writable, written};
 
 use crate::flaw::{Flaw, FlawKind};
 use crate::line::{Entry, Settings};
-use crate::text::first_line;
+use crate::text::Lines;
 use event::Start;
 use std::alloc::{AllocError, Global};
+use std::marker::Model;
+
+// A milking of the day: the line of the file that gives it, and its start.
+#[derive(Clone, Copy, PartialEq, Eq, Debug)]
+pub struct Milking {
+    pub line: usize,
+    pub start: Start,
+}
 
 // A collection day: how many farms and tankers, the end of day, and the milkings in the sequence of the file.
 #[derive(Drop)]
@@ -17,81 +25,90 @@ pub struct Plan {
     pub farms: u8,
     pub tankers: u8,
     pub end: u32,
-    pub starts: Vec<Start>,
-    // the line of each start
-    pub lines: Vec<usize>,
+    pub milkings: Vec<Milking>,
+}
+
+impl Plan {
+    // The starts in the sequence of the file.
+    pub fn starts(&self, heap: Global) -> Result<Vec<Start>, AllocError>
+        ensures { IfOk result (λ v. vec_items v ≡ map (λ m. m.start) (vec_items self.now.milkings)) }
+    {
+        self.milkings
+            .iter()
+            .map(|milking| milking.start)
+            .collect(heap)
+    }
 }
 
 // What the lines so far have told.
 #[derive(Drop)]
 struct Draft {
+    // the line that comes next, from 1
+    line: usize,
     settings: Settings,
-    starts: Vec<Start>,
-    lines: Vec<usize>,
+    milkings: Vec<Milking>,
+}
+
+impl Model for Draft {
+    ghost use Rattle.std.specs.Prelude.{vec_items};
+    ghost use Rattle.dayfile.specs.Plans.{Told};
+
+    ghost Value = { Told };
+
+    ghost view = { λ a. record { line = a.line; settings = a.settings; milkings = vec_items a.milkings } };
 }
 
 impl Draft {
     fn new(heap: Global) -> Draft
-        ensures { told_by result ≡ nothing_told }
+        ensures { result ≡ nothing_told }
     {
         Draft {
-            settings: Settings {
-                farms: None,
-                tankers: None,
-                end: None,
-            },
-            starts: Vec::new(heap),
-            lines: Vec::new(heap),
+            line: 1,
+            settings: Settings::default(),
+            milkings: Vec::new(heap),
         }
     }
 
-    // Keeps what line `n` says.
-    fn note(&mut self, n: usize, entry: Entry) -> Result<(), AllocError>
-        ensures { OnOk result (told_by self.new ≡ noted n (told_by self.old) entry) }
+    // Keeps what the next line says, if anything, and goes on to the line after it.
+    fn note(&mut self, entry: Option<Entry>) -> Result<(), AllocError>
+        requires { self.old.line + 1 < 2 ^ 64 }
+        ensures { OnOk result (self.new ≡ noted self.old entry) }
     {
         match entry {
-            Entry::Nothing => {}
-            Entry::Set(settings) => self.settings = settings,
-            Entry::Milked(start) => {
-                self.starts.push(start)?;
-                self.lines.push(n)?;
-            }
+            None => {}
+            Some(Entry::Set(settings)) => self.settings = settings,
+            Some(Entry::Milked(start)) => self.milkings.push(Milking {
+                line: self.line,
+                start,
+            })?,
         }
+        self.line += 1;
         Ok(())
     }
 
-    // Takes line `n`, or tells its flaw.
-    fn take(&mut self, n: usize, line: &[u8]) -> Result<(), Flaw>
-        ensures { MatchResult result (λ _. step n (told_by self.old) line.now ≡ Ok (told_by self.new)) (λ f. Memory f ⊎ (step n (told_by self.old) line.now ≡ Err f)) }
+    // Takes the next line, or tells its flaw.
+    fn take(&mut self, line: &[u8]) -> Result<(), Flaw>
+        requires { self.old.line + 1 < 2 ^ 64 }
+        ensures { MatchResult result (λ _. step self.old line.now ≡ Ok self.new) (λ f. Memory f ⊎ (step self.old line.now ≡ Err f)) }
     {
-        let entry = match self.settings.entry(line) {
-            Ok(entry) => entry,
-            Err(kind) => return Err(kind.at(n)),
-        };
-        match self.note(n, entry) {
-            Ok(()) => Ok(()),
-            Err(_) => Err(FlawKind::NoMemory.at(n)),
-        }
+        let n = self.line;
+        let entry = self.settings.entry(line).map_err(|kind| kind.at(n))?;
+        self.note(entry).map_err(|_| FlawKind::NoMemory.at(n))
     }
 
-    // The plan, where `n` is the line after the last.
-    fn finish(self, n: usize) -> Result<Plan, Flaw>
-        ensures { answer result ≡ finished n (told_by self) }
+    // The plan, where no line is left.
+    fn finish(self) -> Result<Plan, Flaw>
+        ensures { answer result ≡ finished self }
     {
-        let Draft {
-            settings,
-            starts,
-            lines,
-        } = self;
-        let farms = settings.farms.ok_or(FlawKind::FarmsMissing.at(n))?;
-        let tankers = settings.tankers.ok_or(FlawKind::TankersMissing.at(n))?;
-        let end = settings.end.ok_or(FlawKind::EndMissing.at(n))?;
+        let n = self.line;
+        let farms = self.settings.farms.ok_or(FlawKind::FarmsMissing.at(n))?;
+        let tankers = self.settings.tankers.ok_or(FlawKind::TankersMissing.at(n))?;
+        let end = self.settings.end.ok_or(FlawKind::EndMissing.at(n))?;
         Ok(Plan {
             farms,
             tankers,
             end,
-            starts,
-            lines,
+            milkings: self.milkings,
         })
     }
 }
@@ -104,13 +121,8 @@ pub fn read(heap: Global, text: &[u8]) -> Result<Plan, Flaw>
     ensures back { (s : Sheet) → Writable s → text.now ≡ written s → OutOfMemory result ⊎ (answer result ≡ Ok s) }
 {
     let mut draft = Draft::new(heap);
-    let mut rest = text;
-    let mut n = 1;
-    while !rest.is_empty() {
-        let (line, after) = first_line(rest);
-        draft.take(n, line)?;
-        rest = after;
-        n += 1;
+    for line in Lines::of(text) {
+        draft.take(line)?;
     }
-    draft.finish(n)
+    draft.finish()
 }

@@ -1,69 +1,106 @@
 // A text in its parts: its lines, what a line says before its comment, its words.
-ghost use Rattle.std.specs.Prelude.{◌≡◌, ◌<◌, [], ◌∷◌, length, MatchOption};
-ghost use Rattle.dayfile.specs.Text.{blank, marks, before, onward, lines_of, words_of};
+ghost use Rattle.std.specs.Prelude.{◌≡◌, ℕ, Bool};
+ghost use Rattle.std.specs.Fn.{FnReturnsAt};
+ghost use Rattle.std.specs.Iterator.{YieldsFirstRef, item_count};
+ghost use Rattle.dayfile.specs.Text.{blank, before, onward, said, lines_of, words_of};
 
-// A kind of byte at which a text is cut.
-#[derive(Clone, Copy)]
-pub(crate) enum Mark {
-    Newline,
-    Hash,
-    Blank,
-    Graphic,
+use std::marker::Model;
+
+fn is_blank(byte: &u8) -> bool
+    ensures { result ≡ blank byte.now }
+{
+    matches!(*byte, b' ' | b'\t' | b'\r')
 }
 
-impl Mark {
-    // Whether the byte is of this kind.
-    fn is(self, byte: u8) -> bool
-        ensures { result ≡ marks self byte }
+// What stands before the first byte that `is_mark` picks, and what begins with it.
+fn cut<F: Fn(&u8) -> bool>(text: &[u8], is_mark: F) -> (&[u8], &[u8])
+    requires { F.IsAlwaysCallable is_mark }
+    ensures { (mark : ℕ → Bool) → ((c : ℕ) (b : Bool) → FnReturnsAt F.Fn is_mark c b → b ≡ mark c) → (result.0.now ≡ before mark text.now) × (result.1.now ≡ onward mark text.now) }
+{
+    let end = text.iter().position(is_mark).unwrap_or(text.len());
+    text.split_at(end)
+}
+
+// The lines of a text that are still to come.
+#[derive(Drop)]
+pub(crate) struct Lines<'a> {
+    rest: &'a [u8],
+}
+
+impl<'a> Model for Lines<'a> {
+    ghost use Rattle.std.specs.Prelude.{ℕ, List};
+    ghost use Rattle.dayfile.specs.Text.{lines_of};
+
+    ghost Value = { List (List ℕ) };
+
+    ghost view = { λ a. lines_of a.rest.now };
+}
+
+impl<'a> Lines<'a> {
+    pub(crate) fn of(text: &'a [u8]) -> Lines<'a>
+        ensures { result ≡ lines_of text.now }
     {
-        match self {
-            Mark::Newline => byte == b'\n',
-            Mark::Hash => byte == b'#',
-            Mark::Blank => is_blank(byte),
-            Mark::Graphic => !is_blank(byte),
+        Lines { rest: text }
+    }
+}
+
+impl<'a> Iterator for Lines<'a> {
+    type Item = &'a [u8];
+
+    ghost next_gives = { YieldsFirstRef (λ lines. lines) };
+
+    ghost remaining = { item_count (λ lines. lines) };
+
+    fn next(&mut self) -> Option<&'a [u8]> {
+        if self.rest.is_empty() {
+            return None;
         }
+        let (line, end) = cut(self.rest, |byte| *byte == b'\n');
+        // past the newline, which the last line may lack
+        self.rest = end.get(1..).unwrap_or(end);
+        Some(line)
     }
 }
 
-fn is_blank(byte: u8) -> bool
-    ensures { result ≡ blank byte }
-{
-    matches!(byte, b' ' | b'\t' | b'\r')
+// The words of a line that are still to come.
+#[derive(Drop)]
+pub(crate) struct Words<'a> {
+    rest: &'a [u8],
 }
 
-// What stands before the first such byte, and what begins with it.
-pub(crate) fn cut(text: &[u8], mark: Mark) -> (&[u8], &[u8])
-    ensures front { result.0.now ≡ before (marks mark) text.now }
-    ensures back { result.1.now ≡ onward (marks mark) text.now }
-{
-    for (i, byte) in text.iter().enumerate() {
-        if mark.is(*byte) {
-            return text.split_at(i);
+impl<'a> Model for Words<'a> {
+    ghost use Rattle.std.specs.Prelude.{ℕ, List};
+    ghost use Rattle.dayfile.specs.Text.{words_of};
+
+    ghost Value = { List (List ℕ) };
+
+    ghost view = { λ a. words_of a.rest.now };
+}
+
+impl<'a> Words<'a> {
+    // What a line says before its comment.
+    pub(crate) fn of(line: &'a [u8]) -> Words<'a>
+        ensures { result ≡ words_of (said line.now) }
+    {
+        let (rest, _) = cut(line, |byte| *byte == b'#');
+        Words { rest }
+    }
+}
+
+impl<'a> Iterator for Words<'a> {
+    type Item = &'a [u8];
+
+    ghost next_gives = { YieldsFirstRef (λ words. words) };
+
+    ghost remaining = { item_count (λ words. words) };
+
+    fn next(&mut self) -> Option<&'a [u8]> {
+        let (_, from) = cut(self.rest, |byte| !is_blank(byte));
+        if from.is_empty() {
+            return None;
         }
+        let (word, rest) = cut(from, is_blank);
+        self.rest = rest;
+        Some(word)
     }
-    text.split_at(text.len())
-}
-
-// The first line, and the text after it.
-pub(crate) fn first_line(text: &[u8]) -> (&[u8], &[u8])
-    ensures lines { 0 < length text.now → lines_of text.now ≡ result.0.now ∷ lines_of result.1.now }
-    ensures shorter { 0 < length text.now → length result.1.now < length text.now }
-{
-    let (line, rest) = cut(text, Mark::Newline);
-    if rest.is_empty() {
-        return (line, rest);
-    }
-    let (_, after) = rest.split_at(1);
-    (line, after)
-}
-
-// The first word, if there is one, and what stands after it.
-pub(crate) fn first_word(line: &[u8]) -> Option<(&[u8], &[u8])>
-    ensures { MatchOption result (words_of line.now ≡ []) (λ p. words_of line.now ≡ p.0.now ∷ words_of p.1.now) }
-{
-    let (_, from) = cut(line, Mark::Graphic);
-    if from.is_empty() {
-        return None;
-    }
-    Some(cut(from, Mark::Blank))
 }

@@ -1,12 +1,10 @@
--- What is left, after what was told, gives what the whole text gives.
+-- The lines left, after what was told, give what the whole text gives.
 use Rattle.std.proofs.Common.{◌≡◌, ◌+◌, ◌≤◌, length}
-use Rattle.dayfile.specs.Text.{lines_of}
 use Rattle.dayfile.specs.Plans.{read_on, read_text}
-use Rattle.dayfile.specs.Held.{told_by}
 use Rattle.dayfile.proofs.plan.read.Given as goal
 
-abbrev pub invariant-loop-rest : goal.invariant-loop-rest
-invariant-loop-rest l = (read_on l.n (told_by l.draft) (lines_of l.rest) ≡ read_text l.text) × (l.n + length l.rest ≤ length l.text + 1)
-
-abbrev pub decreases-loop-rest : goal.decreases-loop-rest
-decreases-loop-rest l = length l.rest
+abbrev pub invariant-loop-line : goal.invariant-loop-line
+invariant-loop-line l = record {
+  left : read_on l.draft l.line-iterator ≡ read_text l.text;
+  numbered : l.draft.line + length l.line-iterator ≤ length l.text + 1;
+}
