@@ -1,2 +1,2 @@
-pub mod Folds
-pub mod Rows
+pub mod Clocks
+pub mod Unloadings

@@ -1,3 +1,4 @@
+pub mod Days
 pub mod Deeds
 pub mod Summary
 pub mod Words

@@ -1,6 +1,6 @@
 -- The figures of a collection day with f farms and t tankers.
-use Rattle.std.specs.Prelude.{ℕ, ◌+◌, ◌-◌, Bool, false, cond, not, ◌&&◌, ◌||◌, List, [], ◌∷◌, ◌++◌, map, length, Some, None, fold, sum_by, count_by, filter, Option, ◌==◌}
-use Rattle.std.specs.List.{range_with_len}
+use Rattle.std.specs.Prelude.{ℕ, ◌+◌, ◌-◌, Bool, if◌then◌else◌, not, ◌&&◌, List, [], ◌∷◌, ◌++◌, map, length, Some, None, fold, sum_by, count_by, filter, Option, ◌==◌}
+use Rattle.std.specs.List.{list_any, range_with_len}
 use Rattle.event.specs.declared.Message.{Message}
 use Rattle.collection.specs.Kinds.{milked, pump, unload}
 use Rattle.collection.specs.Places.{dairy, is_tanker_place}
@@ -11,19 +11,23 @@ use Rattle.report.specs.declared.figures.Fact.TheVariants.{Received, Left, NotVi
 
 -- some message of the list is of this kind
 abbrev pub some : (Message → Bool) → List Message → Bool
-some is ms = fold (λ seen m. seen || is m) false ms
+some is ms = list_any is ms
 
 -- milk is announced at the farm
 abbrev pub is_milking_message : ℕ → Message → Bool
 is_milking_message farm m = m.receiver == farm && m.kind == milked
 
+-- a message of this kind reaches the place from a tanker
+abbrev pub comes_from_tanker_to : ℕ → ℕ → ℕ → ℕ → Message → Bool
+comes_from_tanker_to f t place kind m = (m.receiver == place && m.kind == kind) && is_tanker_place f t m.sender
+
 -- a tanker pumps at the farm
 abbrev pub is_pumping_message : ℕ → ℕ → ℕ → Message → Bool
-is_pumping_message f t farm m = (m.receiver == farm && m.kind == pump) && is_tanker_place f t m.sender
+is_pumping_message f t farm m = comes_from_tanker_to f t farm pump m
 
 -- a tanker unloads at the dairy
 abbrev pub is_unloading_message : ℕ → ℕ → Message → Bool
-is_unloading_message f t m = (m.receiver == dairy && m.kind == unload) && is_tanker_place f t m.sender
+is_unloading_message f t m = comes_from_tanker_to f t dairy unload m
 
 -- a place has sent it: no starting message
 abbrev pub is_sent : Message → Bool
@@ -34,7 +38,7 @@ abbrev pub not_visited : ℕ → ℕ → List Message → ℕ → Bool
 not_visited f t journal farm = some (is_milking_message farm) journal && not (some (is_pumping_message f t farm) journal)
 
 abbrev pub later_unloading_of : ℕ → ℕ → Option ℕ → Message → Option ℕ
-later_unloading_of f t last m = cond (is_unloading_message f t m) (Some m.time) last
+later_unloading_of f t last m = if is_unloading_message f t m then Some m.time else last
 
 -- when a tanker last began to unload
 abbrev pub last_unloading_of : ℕ → ℕ → List Message → Option ℕ

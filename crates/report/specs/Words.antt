@@ -1,7 +1,5 @@
 -- The words for what happened.
 use Rattle.std.specs.Prelude.{ℕ, ◌/◌, ◌%◌, List, ◌++◌, Some, None, codes, decimal, Option}
-use Rattle.day.specs.declared.fault.DayFault.{DayFault}
-use Rattle.day.specs.declared.fault.DayFault.TheVariants as fault
 use Rattle.report.specs.declared.deed.Deed.{Deed}
 use Rattle.report.specs.declared.deed.Deed.TheVariants.{Milked, Waits, SentOut, Free, Drives, Pumps, Leaves, Unloads, Emptied, Ignores}
 use Rattle.report.specs.declared.figures.Fact.{Fact}
@@ -58,15 +56,3 @@ fact_words (Lost n) = codes "messages lost after the end: " ++ decimal n
 -- the day at a glance
 abbrev pub heading_words : ℕ → ℕ → ℕ → List ℕ
 heading_words f t end = codes "farms: " ++ (decimal f ++ (codes ", tankers: " ++ (decimal t ++ (codes ", end of day: " ++ moment_words end))))
-
--- why a day is refused
-abbrev pub words_of_fault : DayFault → List ℕ
-words_of_fault fault.Memory = codes "there is no memory for the day"
-words_of_fault fault.End = codes "the end of day is above 1000000"
-words_of_fault (fault.StartPlace i) = codes "a starting message names no place"
-words_of_fault (fault.StartTime i) = codes "a starting message is later than the end of day"
-words_of_fault (fault.StartRoom i) = codes "there are more starting messages than the calendar holds"
-words_of_fault fault.Room = codes "the calendar has no room for what the next event may send"
-words_of_fault fault.Place = codes "there is no such place"
-words_of_fault fault.Entries = codes "the journal is full"
-words_of_fault fault.Entry = codes "there is no such entry"

@@ -1,13 +1,11 @@
 // What an event of a collection day was.
 ghost use Rattle.std.specs.Prelude.{◌≡◌};
-ghost use Rattle.report.specs.Deeds.{who_of, sent_out_of, dairy_deed, farm_deed, tanker_deed, deed_of};
-ghost use Rattle.event.specs.Lists.{first as first_of};
-ghost use Rattle.model.specs.Meaning.{listed};
+ghost use Rattle.report.specs.Deeds.{who_of, ignored, sent_out_of, dairy_deed, farm_deed, tanker_deed, deed_of};
 
-use collection::{Collection, DAIRY, EMPTIED, FREE, GO, LOADED, MILKED, PUMP, READY, UNLOAD};
+use collection::{Collection, DAIRY, Kind};
 use day::Ran;
 use event::Message;
-use model::{Sends, Sent};
+use model::Sent;
 
 // Who a place is.
 #[derive(Clone, Copy, PartialEq, Eq, Debug)]
@@ -15,7 +13,7 @@ pub enum Who {
     Dairy,
     Farm(u8),
     Tanker(u8),
-    // no place of the day, as the sender of a starting message
+    // no place of the day, as the sender of a starting message; a case and no None, since it is printed like the others
     Nobody,
 }
 
@@ -52,89 +50,87 @@ impl Who {
     }
 }
 
-// The first message sent.
-fn first(sends: &Sends) -> Option<Sent>
-    ensures { result ≡ first_of (listed sends.now) }
-{
-    match sends {
-        Sends::Nothing => None,
-        Sends::One(a) => Some(*a),
-        Sends::Two(a, _) => Some(*a),
-    }
+// A message that has run: who sent it, and what its receiver sent first.
+#[derive(Clone, Copy)]
+struct Heard {
+    message: Message,
+    sender: Who,
+    sent: Option<Sent>,
 }
 
-// The dairy sends a tanker out, or else.
-fn sent_out(farms: u8, sent: Option<Sent>, or_else: Deed) -> Deed
-    ensures { result ≡ sent_out_of farms sent or_else }
-{
-    match sent {
-        Some(go) => Deed::SentOut {
-            tanker: go.receiver.saturating_sub(farms),
-            farm: go.data,
-        },
-        None => or_else,
+impl Heard {
+    // Whoever ignores it.
+    fn ignored(self, who: Who) -> Deed
+        ensures { result ≡ ignored who self.message self.sender }
+    {
+        Deed::Ignores {
+            who,
+            kind: self.message.kind,
+            sender: self.sender,
+        }
     }
-}
 
-fn at_dairy(farms: u8, m: &Message, sender: Who, sent: Option<Sent>) -> Deed
-    ensures { result ≡ dairy_deed farms m.now sender sent }
-{
-    match (m.kind, sender) {
-        (READY, Who::Farm(farm)) => sent_out(farms, sent, Deed::Waits { farm }),
-        (FREE, Who::Tanker(tanker)) => sent_out(farms, sent, Deed::Free { tanker }),
-        (UNLOAD, Who::Tanker(tanker)) => Deed::Unloads {
-            tanker,
-            litres: m.data,
-        },
-        (kind, _) => Deed::Ignores {
-            who: Who::Dairy,
-            kind,
-            sender,
-        },
+    // The dairy sends a tanker out, or else.
+    fn sent_out(self, farms: u8, or_else: Deed) -> Deed
+        ensures { result ≡ sent_out_of farms self.sent or_else }
+    {
+        self.sent.map_or(
+            or_else,
+            |go| Deed::SentOut {
+                tanker: go.receiver.saturating_sub(farms),
+                farm: go.data,
+            },
+        )
     }
-}
 
-fn at_farm(farm: u8, m: &Message, sender: Who, sent: Option<Sent>) -> Deed
-    ensures { result ≡ farm_deed farm m.now sender sent }
-{
-    match (m.kind, sender, sent) {
-        (MILKED, _, _) => Deed::Milked {
-            farm,
-            litres: m.data,
-        },
-        (PUMP, Who::Tanker(tanker), Some(loaded)) => Deed::Pumps {
-            tanker,
-            farm,
-            litres: loaded.data,
-        },
-        (kind, _, _) => Deed::Ignores {
-            who: Who::Farm(farm),
-            kind,
-            sender,
-        },
+    fn at_dairy(self, farms: u8) -> Deed
+        ensures { result ≡ dairy_deed farms self.message self.sender self.sent }
+    {
+        match (Kind::try_from(self.message.kind), self.sender) {
+            (Ok(Kind::Ready), Who::Farm(farm)) => self.sent_out(farms, Deed::Waits { farm }),
+            (Ok(Kind::Free), Who::Tanker(tanker)) => self.sent_out(farms, Deed::Free { tanker }),
+            (Ok(Kind::Unload), Who::Tanker(tanker)) => Deed::Unloads {
+                tanker,
+                litres: self.message.data,
+            },
+            _ => self.ignored(Who::Dairy),
+        }
     }
-}
 
-// A tanker that sends nothing has ignored the message.
-fn at_tanker(tanker: u8, m: &Message, sender: Who, sent: Option<Sent>) -> Deed
-    ensures { result ≡ tanker_deed tanker m.now sender sent }
-{
-    match (m.kind, sender, sent) {
-        (GO, _, Some(pump)) => Deed::Drives {
-            tanker,
-            farm: pump.receiver,
-        },
-        (EMPTIED, _, Some(_)) => Deed::Emptied { tanker },
-        (LOADED, Who::Farm(farm), Some(_)) => Deed::Leaves {
-            tanker,
-            farm,
-            litres: m.data,
-        },
-        (kind, _, _) => Deed::Ignores {
-            who: Who::Tanker(tanker),
-            kind,
-            sender,
-        },
+    fn at_farm(self, farm: u8) -> Deed
+        ensures { result ≡ farm_deed farm self.message self.sender self.sent }
+    {
+        match (Kind::try_from(self.message.kind), self.sender, self.sent) {
+            (Ok(Kind::Milked), _, _) => Deed::Milked {
+                farm,
+                litres: self.message.data,
+            },
+            (Ok(Kind::Pump), Who::Tanker(tanker), Some(loaded)) => Deed::Pumps {
+                tanker,
+                farm,
+                litres: loaded.data,
+            },
+            _ => self.ignored(Who::Farm(farm)),
+        }
+    }
+
+    // A tanker that sends nothing has ignored the message.
+    fn at_tanker(self, tanker: u8) -> Deed
+        ensures { result ≡ tanker_deed tanker self.message self.sender self.sent }
+    {
+        match (Kind::try_from(self.message.kind), self.sender, self.sent) {
+            (Ok(Kind::Go), _, Some(pump)) => Deed::Drives {
+                tanker,
+                farm: pump.receiver,
+            },
+            (Ok(Kind::Emptied), _, Some(_)) => Deed::Emptied { tanker },
+            (Ok(Kind::Loaded), Who::Farm(farm), Some(_)) => Deed::Leaves {
+                tanker,
+                farm,
+                litres: self.message.data,
+            },
+            _ => self.ignored(Who::Tanker(tanker)),
+        }
     }
 }
 
@@ -143,18 +139,16 @@ impl Deed {
     pub fn of(model: &Collection, ran: &Ran) -> Deed
         ensures { result ≡ deed_of model.now.farms model.now.tankers ran.now }
     {
-        let m = &ran.message;
-        let sender = Who::at(model, m.sender);
-        let sent = first(&ran.sends);
-        match Who::at(model, m.receiver) {
-            Who::Dairy => at_dairy(model.farms(), m, sender, sent),
-            Who::Farm(farm) => at_farm(farm, m, sender, sent),
-            Who::Tanker(tanker) => at_tanker(tanker, m, sender, sent),
-            Who::Nobody => Deed::Ignores {
-                who: Who::Nobody,
-                kind: m.kind,
-                sender,
-            },
+        let heard = Heard {
+            message: ran.message,
+            sender: Who::at(model, ran.message.sender),
+            sent: ran.sends.first(),
+        };
+        match Who::at(model, ran.message.receiver) {
+            Who::Dairy => heard.at_dairy(model.farms()),
+            Who::Farm(farm) => heard.at_farm(farm),
+            Who::Tanker(tanker) => heard.at_tanker(tanker),
+            Who::Nobody => heard.ignored(Who::Nobody),
         }
     }
 }

@@ -7,4 +7,4 @@ mod words;
 
 pub use deed::{Deed, Who};
 pub use figures::{Fact, summary};
-pub use words::{Clock, Heading, Line, Moment, fault_words};
+pub use words::{Clock, Heading, Line, Moment};

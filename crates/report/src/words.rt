@@ -1,25 +1,10 @@
 // The words for what happened.
 ghost use Rattle.std.specs.Prelude.{◌≡◌, Some};
-ghost use Rattle.report.specs.Words.{two_digits, clock_words, moment_words, who_words, deed_words, line_words, unloading_words, fact_words, heading_words, words_of_fault};
+ghost use Rattle.report.specs.Words.{clock_words, moment_words, who_words, deed_words, line_words, unloading_words, fact_words, heading_words};
 
 use crate::deed::{Deed, Who};
 use crate::figures::Fact;
-use day::DayFault;
 use std::fmt;
-
-// A number below 100, shown in two digits.
-#[derive(Clone, Copy)]
-struct TwoDigits(u32);
-
-impl fmt::Display for TwoDigits {
-    ghost output = { λ n. Some (two_digits n.0) };
-
-    fn fmt<W: fmt::Write>(&self, f: &mut fmt::Formatter<W>) -> fmt::Result {
-        let tens = self.0 / 10;
-        let units = self.0 % 10;
-        write!(f, "{tens}{units}")
-    }
-}
 
 // Seconds of the day, shown as h:mm:ss.
 #[derive(Clone, Copy)]
@@ -30,9 +15,9 @@ impl fmt::Display for Clock {
 
     fn fmt<W: fmt::Write>(&self, f: &mut fmt::Formatter<W>) -> fmt::Result {
         let hours = self.0 / 3600;
-        let minutes = TwoDigits(self.0 / 60 % 60);
-        let seconds = TwoDigits(self.0 % 60);
-        write!(f, "{hours}:{minutes}:{seconds}")
+        let minutes = self.0 / 60 % 60;
+        let seconds = self.0 % 60;
+        write!(f, "{hours}:{minutes:02}:{seconds:02}")
     }
 }
 
@@ -168,22 +153,5 @@ impl fmt::Display for Heading {
         let tankers = self.tankers;
         let end = Moment(self.end);
         write!(f, "farms: {farms}, tankers: {tankers}, end of day: {end}")
-    }
-}
-
-// Why a day is refused, in plain words.
-pub fn fault_words(fault: DayFault) -> &'static str
-    ensures { result.now ≡ words_of_fault fault }
-{
-    match fault {
-        DayFault::Memory => "there is no memory for the day",
-        DayFault::End => "the end of day is above 1000000",
-        DayFault::StartPlace(_) => "a starting message names no place",
-        DayFault::StartTime(_) => "a starting message is later than the end of day",
-        DayFault::StartRoom(_) => "there are more starting messages than the calendar holds",
-        DayFault::Room => "the calendar has no room for what the next event may send",
-        DayFault::Place => "there is no such place",
-        DayFault::Entries => "the journal is full",
-        DayFault::Entry => "there is no such entry",
     }
 }

@@ -1,22 +1,17 @@
--- One farm more, and all of them.
-use Rattle.std.proofs.Common.{◌≡◌, ℕ, ◌-◌, [], ◌∷◌, ◌++◌, get_or, vec_items, ap, ◌∙◌, arith}
-use Rattle.collection.specs.declared.Collection.{Collection}
-use Rattle.collection.specs.Rules.{meaning_of}
-use Rattle.day.specs.declared.place.Place.{Place}
-use Rattle.day.specs.Held.{day_of}
+-- The chain gives what is left at each farm.
+use Rattle.std.proofs.Common.{rules, tests, ◌+◌, arith}
+use Rattle.std.proofs.lemmas.Iterator.{YieldsList-from_map, YieldsList-from_range}
+use Rattle.std.proofs.lemmas.Iterator.Adapters.{items_from_extend}
+use Rattle.std.proofs.lemmas.Result.{on_ok_weaker}
+use Rattle.collection.specs.Replies.{word}
 use Rattle.report.specs.declared.figures.Fact.TheVariants.{Left}
-use Rattle.report.specs.Summary.{left_facts}
-use Rattle.report.proofs.Rows.{row_more}
+use Rattle.report.specs.Days.{the_day}
 use Rattle.report.proofs.figures.add_left.Goals as goal
-
-pub loop-farm-preserved : goal.loop-farm-preserved
-loop-farm-preserved c =
-    row_more _ _ _ _ c.loop-farm.farm c.loop-farm.auto.farm c.loop-farm.invariant
-    (c.in_ok-push.ensures.items ∙ ap (λ (p : Place). vec_items c.loop-farm.facts ++ Left c.loop-farm.farm (get_or p.words 0 0) ∷ []) c.place_of.ensures)
 
 pub returns : goal.returns
 returns c =
-    let s = c.args.day.now in
-    let farms = c.farms-farm-end.ensures ∙ ap (λ (m : Collection). m.farms) c.model.ensures in
-    let all : c.loop-farm.farm - 1 ≡ s.model.farms = omega (arith, farms, c.loop-farm.auto.farm-end (omega arith)) in
-    c.loop-farm.invariant ∙ ap (λ (n : ℕ). vec_items c.args.facts.now ++ left_facts n (day_of (meaning_of s.model.farms s.model.tankers) s)) all
+    let d = c.args.day.now in
+    on_ok_weaker c.extend.result (λ h. h.0)
+    (items_from_extend c.extend.result c.extend.ensures.ran
+    (YieldsList-from_map _ (λ i. Left i (word ((the_day d).place i).words 0)) (YieldsList-from_range 1 (d.model.farms + 1) d.model.farms (cc) (omega arith)) c.map.ensures.closure
+    (λ x r q k. search (rules, tests))))
