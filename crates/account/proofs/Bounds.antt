@@ -11,7 +11,7 @@ use Rattle.account.specs.Groups.{leads}
 use Rattle.account.proofs.After.{sound_after}
 use Rattle.account.proofs.Counts.{sum_le, ind_and, executions_few}
 use Rattle.account.proofs.Executions.{executions_lead}
-use Rattle.day.proofs.Places.{none_some}
+use Rattle.std.proofs.lemmas.Option.{none-some}
 use Rattle.account.proofs.Step.{some_is, runs_from}
 
 -- where none is, none of fewer is
@@ -49,7 +49,7 @@ module _ (among : ℕ → Bool) (alike : ℕ → ℕ → Bool) where
 -- the smallest key is run by someone
 least_runs : (A : Account) (n : ℕ) (k : Key) → least A n ≡ Some k → any_below (runs A k) n ≡ true
 unfolding least any_below
-least_runs A zero k e = absurd (none_some k e)
+least_runs A zero k e = absurd (none-some k e)
 least_runs A (suc n) k e = go (cases_Bool (A.live n)) (first (A.day n).waiting) refl (least A n) refl (least_runs A n k)
   where
     go : (A.live n ≡ true) ⊎ (A.live n ≡ false) → (f : Option Message) → first (A.day n).waiting ≡ f → (o : Option Key) → least A n ≡ o

@@ -15,7 +15,7 @@ use Rattle.account.specs.Account.{Account, least, runs, sends, sent_at, reached_
 use Rattle.account.specs.Sound.{Sound, Faithful}
 use Rattle.account.specs.Chain.{Runs, Sends, Moment, set, ran, Since, Touched, by_order, by_message, Carried, run_of}
 use Rattle.event.proofs.Orders.{never}
-use Rattle.day.proofs.Places.{none_some}
+use Rattle.std.proofs.lemmas.Option.{none-some}
 use Rattle.account.proofs.Finding.{find_key, all_find}
 use Rattle.account.proofs.Events.{all_first}
 use Rattle.account.proofs.Step.{Ran, ran_from, who, one_way, some_is, some_from, sends_ran, sends_runs, sends_over, marked_sent, marked_kept, find_ran, find_old, day_ran, day_idle, reached_sym'}
@@ -174,8 +174,8 @@ module _ (M : Meaning) (law : Law M) (A : Account) (s : Sound M A) (f : Faithful
     both_ran : A.marked (u true) (u false) k ≡ false → (x : Bool) (m : Message) → Ran A k (u x) m → (y : Bool) → (m : Message) × Ran A k (u y) m
     both_ran h true m r true = (m, r)
     both_ran h false m r false = (m, r)
-    both_ran h true m r false = ⊎_elim (λ q. q) (λ q. absurd (none_some m (sym q.1 ∙ sym (s.wait_same (u true) (u false) k (l true) (l false) h) ∙ r.found))) (who M law A s k is (u false) (l false))
-    both_ran h false m r true = ⊎_elim (λ q. q) (λ q. absurd (none_some m (sym q.1 ∙ s.wait_same (u true) (u false) k (l true) (l false) h ∙ r.found))) (who M law A s k is (u true) (l true))
+    both_ran h true m r false = ⊎_elim (λ q. q) (λ q. absurd (none-some m (sym q.1 ∙ sym (s.wait_same (u true) (u false) k (l true) (l false) h) ∙ r.found))) (who M law A s k is (u false) (l false))
+    both_ran h false m r true = ⊎_elim (λ q. q) (λ q. absurd (none-some m (sym q.1 ∙ s.wait_same (u true) (u false) k (l true) (l false) h ∙ r.found))) (who M law A s k is (u true) (l true))
 
     touched_now : (x : Bool) (m : Message) → Ran A k (u x) m → reached_by A k (u true) (u false) k.receiver ≡ true → (t : Moment) × Touched M A.end A.load (duo A' u) t k.receiver × Since M A.end A.load (duo A' u) t k
     touched_now x m r h = go (cases_Bool (A.marked (u true) (u false) k))
@@ -235,7 +235,7 @@ module _ (M : Meaning) (law : Law M) (A : Account) (s : Sound M A) (f : Faithful
 
     -- and one that is not sent now did
     old_message : (x : Bool) (j : Key) (m : Message) → sends M A k (u x) j ≡ false → find j (A'.day (u x)).waiting ≡ Some m → find j (A.day (u x)).waiting ≡ Some m
-    old_message x j m h e = cond_both (same j k) None (find j (A.day (u x)).waiting) (λ o. o ≡ Some m → find j (A.day (u x)).waiting ≡ Some m) (λ _ q. absurd (none_some m q)) (λ _ q. q) (sym (find_old M law A s k is (u x) j (l x) h) ∙ e)
+    old_message x j m h e = cond_both (same j k) None (find j (A.day (u x)).waiting) (λ o. o ≡ Some m → find j (A.day (u x)).waiting ≡ Some m) (λ _ q. absurd (none-some m q)) (λ _ q. q) (sym (find_old M law A s k is (u x) j (l x) h) ∙ e)
 
     marked_to' : (x : Bool) (j : Key) (m : Message) → A'.marked (u true) (u false) j ≡ true → find j (A'.day (u x)).waiting ≡ Some m → Carried M A.end A.load (duo A' u) x m
     marked_to' x j m h e = go (cases_Bool (sends M A k (u x) j)) (cases_Bool (sends M A k (u (not x)) j))
@@ -257,7 +257,7 @@ module _ (M : Meaning) (law : Law M) (A : Account) (s : Sound M A) (f : Faithful
               sends = now_sent (u x) n.0 m (l x) n.1 n.2;
             }
         go (inr a) (inr b) = before_now (sym (none_sends x j a b) ∙ h) a
-        go (inr a) (inl b) = before_now (⊎_elim (λ q. q) (λ q. absurd (none_some m (sym (fresh (not x) j b) ∙ sym (turn_same x j q) ∙ old_message x j m a e))) (cases_Bool (A.marked (u true) (u false) j))) a
+        go (inr a) (inl b) = before_now (⊎_elim (λ q. q) (λ q. absurd (none-some m (sym (fresh (not x) j b) ∙ sym (turn_same x j q) ∙ old_message x j m a e))) (cases_Bool (A.marked (u true) (u false) j))) a
 
     marked_from' : (x : Bool) (j : Key) (m : Message) → find j (A'.day (u x)).waiting ≡ Some m → Carried M A.end A.load (duo A' u) x m → A'.marked (u true) (u false) j ≡ true
     marked_from' x j m e h = go (cases_Bool (sends M A k (u x) j)) (runs_split (u x) h.i h.m₀ (l x) h.runs)

@@ -9,13 +9,13 @@ use Rattle.event.specs.declared.Key.{Key}
 use Rattle.event.specs.Keys.{key_of, before, same}
 use Rattle.event.specs.Lists.{first, rest, Rising}
 use Rattle.account.specs.Finds.{find}
-use Rattle.model.specs.Meaning.{Meaning, Law}
+use Rattle.model.specs.Meaning.{arrival_of, Meaning, Law}
 use Rattle.day.proofs.Tidy.{stamped_later, first_rest}
-use Rattle.day.specs.Day.{Day, arrival_of, sent_by, posted_by, event_at, ordered}
+use Rattle.day.specs.Day.{Day, sent_by, posted_by, event_at, ordered}
 use Rattle.account.specs.Account.{Account, empty, origin, least, runs, fed_load, fed_branch, fed_decide, fed_retire, fed_step_at, fed_step}
 use Rattle.account.specs.Sound.{Sound}
 use Rattle.event.proofs.Orders.{chain, apart, sooner, same_from}
-use Rattle.day.proofs.Places.{none_some}
+use Rattle.std.proofs.lemmas.Option.{none-some}
 use Rattle.event.proofs.Insertion.{rising_back, all_insert_all}
 use Rattle.account.proofs.Events.{all_first}
 use Rattle.account.proofs.Calls.{live_origin}
@@ -37,7 +37,7 @@ ahead_of k (x ∷ xs) h e l = (b, All-weaker (λ y. before (key_of x) (key_of y)
   where
     go : (before k (key_of x) ≡ true) ⊎ (before k (key_of x) ≡ false) → before k (key_of x) ≡ true
     go (inl t) = t
-    go (inr t) = absurd (none_some x (sym e ∙ cond-true (same k (key_of x)) (Some x) (find k xs) (same_from k (key_of x) (apart k (key_of x) t (l x refl)))))
+    go (inr t) = absurd (none-some x (sym e ∙ cond-true (same k (key_of x)) (Some x) (find k xs) (same_from k (key_of x) (apart k (key_of x) t (l x refl)))))
 
     b : before k (key_of x) ≡ true
     b = go (cases_Bool (before k (key_of x)))

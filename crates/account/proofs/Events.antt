@@ -16,11 +16,11 @@ use Rattle.day.specs.Tidy.{Tidy}
 use Rattle.day.proofs.Events.{all_rest}
 use Rattle.day.proofs.Numbers.{Between, stamped_sequence, sequence_between, length_stamped}
 use Rattle.account.specs.Finds.{find, either}
-use Rattle.day.proofs.Places.{none_some}
+use Rattle.std.proofs.lemmas.Option.{none-some}
 use Rattle.account.proofs.Finding.{find_none, find_insert, find_rest}
 
 pub all_first : (P : Message → Type 0) (xs : List Message) (m : Message) → AllByRecursion P xs → first xs ≡ Some m → P m
-all_first P [] m h e = absurd (none_some m e)
+all_first P [] m h e = absurd (none-some m e)
 all_first P (x ∷ xs) m h e = let g : x ≡ m = cc in subst P g h.0
 
 -- what s sends is numbered from n on

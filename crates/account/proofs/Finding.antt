@@ -8,11 +8,11 @@ use Rattle.event.specs.declared.Key.{Key}
 use Rattle.event.specs.Keys.{key_of, before, same}
 use Rattle.event.specs.Lists.{insert, first, rest, Rising}
 use Rattle.account.specs.Finds.{find}
-use Rattle.day.proofs.Places.{none_some}
+use Rattle.std.proofs.lemmas.Option.{none-some}
 use Rattle.event.proofs.Orders.{same_true, same_from, same_not, before_ne}
 
 pub find_key : (k : Key) (xs : List Message) (m : Message) → find k xs ≡ Some m → key_of m ≡ k
-find_key k [] m e = absurd (none_some m e)
+find_key k [] m e = absurd (none-some m e)
 find_key k (x ∷ xs) m e = go (cases_Bool (same k (key_of x))) (find_key k xs m)
   where
     go : (same k (key_of x) ≡ true) ⊎ (same k (key_of x) ≡ false) → (find k xs ≡ Some m → key_of m ≡ k) → key_of m ≡ k
@@ -20,7 +20,7 @@ find_key k (x ∷ xs) m e = go (cases_Bool (same k (key_of x))) (find_key k xs m
     go (inr t) ih = ih (sym (cond-false (same k (key_of x)) (Some x) (find k xs) t) ∙ e)
 
 pub all_find : (P : Message → Type 0) (k : Key) (xs : List Message) (m : Message) → AllByRecursion P xs → find k xs ≡ Some m → P m
-all_find P k [] m h e = absurd (none_some m e)
+all_find P k [] m h e = absurd (none-some m e)
 all_find P k (x ∷ xs) m h e = go (cases_Bool (same k (key_of x))) (all_find P k xs m h.1)
   where
     go : (same k (key_of x) ≡ true) ⊎ (same k (key_of x) ≡ false) → (find k xs ≡ Some m → P m) → P m
@@ -40,7 +40,7 @@ find_insert k m (x ∷ xs) h = go (cases_Bool (before (key_of m) (key_of x))) (c
         → (find (key_of m) xs ≡ None → find k (insert key_of m xs) ≡ cond (same k (key_of m)) (Some m) (find k xs))
         → find k (insert key_of m (x ∷ xs)) ≡ cond (same k (key_of m)) (Some m) (find k (x ∷ xs))
     go (inl b) s ih = simp b
-    go (inr b) (inl s) ih = absurd (none_some x (sym h ∙ cond-true (same (key_of m) (key_of x)) (Some x) (find (key_of m) xs) s))
+    go (inr b) (inl s) ih = absurd (none-some x (sym h ∙ cond-true (same (key_of m) (key_of x)) (Some x) (find (key_of m) xs) s))
     go (inr b) (inr s) ih =
         let f = ih (sym (cond-false (same (key_of m) (key_of x)) (Some x) (find (key_of m) xs) s) ∙ h) in
         simp (b, f) (last (cases_Bool (same k (key_of m))) (cases_Bool (same k (key_of x))))
@@ -52,11 +52,11 @@ find_insert k m (x ∷ xs) h = go (cases_Bool (before (key_of m) (key_of x))) (c
         last (inr p) q = simp p
 
 pub first_find : (xs : List Message) (m : Message) → first xs ≡ Some m → find (key_of m) xs ≡ Some m
-first_find [] m e = absurd (none_some m e)
+first_find [] m e = absurd (none-some m e)
 first_find (x ∷ xs) m e = let g : x ≡ m = cc in cond-true (same (key_of m) (key_of x)) (Some x) (find (key_of m) xs) (same_from (key_of m) (key_of x) (ap key_of (sym g))) ∙ e
 
 pub find_rest : (k : Key) (xs : List Message) (m : Message) → Rising key_of xs → first xs ≡ Some m → find k (rest xs) ≡ cond (same k (key_of m)) None (find k xs)
-find_rest k [] m h e = absurd (none_some m e)
+find_rest k [] m h e = absurd (none-some m e)
 find_rest k (x ∷ xs) m h e = let g : x ≡ m = cc in subst (λ y. find k xs ≡ cond (same k (key_of y)) None (find k (x ∷ xs))) g (go (cases_Bool (same k (key_of x))))
   where
     go : (same k (key_of x) ≡ true) ⊎ (same k (key_of x) ≡ false) → find k xs ≡ cond (same k (key_of x)) None (cond (same k (key_of x)) (Some x) (find k xs))

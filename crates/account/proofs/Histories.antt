@@ -8,12 +8,12 @@ use Rattle.account.specs.Account.{Account, Call, load, branch, decide, waive, st
 use Rattle.account.specs.Sound.{Sound}
 use Rattle.account.specs.Refusals.{Refusal, bad_start, refusal, told_or, history}
 use Rattle.account.specs.Claims.{HistoryAfter}
-use Rattle.day.proofs.Places.{none_some}
+use Rattle.std.proofs.lemmas.Option.{none-some}
 use Rattle.account.proofs.After.{sound_after}
 
 -- where none is given, the test fails and the rest gives none
 passed : (b : Bool) (r : Refusal) (o : Option Refusal) → cond b (Some r) o ≡ None → (b ≡ false) × (o ≡ None)
-passed true r o e = absurd (none_some r (sym e))
+passed true r o e = absurd (none-some r (sym e))
 passed false r o e = (refl, e)
 
 good_start : (M : Meaning) (capacity end i : ℕ) (l : List Start) → bad_start M capacity end i l ≡ None → AllByRecursion (λ s. s.receiver < M.places) l

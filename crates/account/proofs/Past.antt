@@ -12,7 +12,7 @@ use Rattle.model.specs.Meaning.{Meaning, listed}
 use Rattle.day.specs.Day.{Day, reaction, posted_by, place_after, event_at, event, ordered, ordered_place}
 use Rattle.day.specs.Alone.{Order, ordered_at, alone}
 use Rattle.account.specs.Account.{sent_at}
-use Rattle.day.proofs.Places.{none_some}
+use Rattle.std.proofs.lemmas.Option.{none-some}
 use Rattle.account.proofs.Finding.{all_find}
 use Rattle.day.proofs.Numbers.{Between}
 use Rattle.account.proofs.Events.{stamped_from}
@@ -45,7 +45,7 @@ sent_below : (M : Meaning) (end : ℕ) (d : Day) (x : Message) → find (key_of 
 sent_below M end d x h = go (first d.waiting) h
   where
     go : (o : Option Message) → find (key_of x) (sent_at M end d o) ≡ Some x → x.number < ((event_at M end d o).place x.sender).sent
-    go None e = absurd (none_some x e)
+    go None e = absurd (none-some x e)
     go (Some m) e = let f = sent_from M end d m x e in
         subst (λ p. x.number < p.sent) (sym (cond-true (eqb x.sender m.receiver) (place_after M (d.place m.receiver) m) (d.place x.sender) (eq-eqb x.sender m.receiver f.sender))) f.most
 

@@ -13,7 +13,7 @@ use Rattle.day.specs.Tidy.{Tidy}
 use Rattle.account.specs.Account.{Account, earlier, least, is_key, runs, sent_at, sends, reached_by, fed_step_at, fed_step}
 use Rattle.account.specs.Sound.{Sound}
 use Rattle.event.proofs.Orders.{never, chain, apart, same_true, same_from}
-use Rattle.day.proofs.Places.{none_some}
+use Rattle.std.proofs.lemmas.Option.{none-some}
 use Rattle.account.proofs.Finding.{find_key, first_find, find_first}
 use Rattle.event.proofs.Insertion.{rising_back}
 use Rattle.account.proofs.Events.{find_event}
@@ -34,7 +34,7 @@ pub some_is : {A : Type 0} (x y : A) → Some x ≡ Some y → x ≡ y
 some_is x y e = cc
 
 earlier_first : (o : Option Message) (j : Option Key) (k : Key) (x : Message) → earlier o j ≡ Some k → o ≡ Some x → before (key_of x) k ≡ false
-earlier_first None j k x e f = absurd (none_some x f)
+earlier_first None j k x e f = absurd (none-some x f)
 earlier_first (Some m) None k x e f = subst (λ i. before (key_of x) i ≡ false) (ap key_of (sym (some_is m x f)) ∙ some_is (key_of m) k e) (never (key_of x))
 earlier_first (Some m) (Some j) k x e f = go (cases_Bool (before j (key_of m)))
   where
@@ -57,8 +57,8 @@ earlier_last (Some m) j k e = go (cases_Bool (before j (key_of m)))
 
 earlier_none : (o : Option Message) (j : Option Key) → earlier o j ≡ None → (o ≡ None) × (j ≡ None)
 earlier_none None j e = (refl, e)
-earlier_none (Some m) None e = absurd (none_some (key_of m) (sym e))
-earlier_none (Some m) (Some j) e = absurd (cond_both (before j (key_of m)) (Some j) (Some (key_of m)) (λ o. o ≡ None → ⊥) (λ _ f. none_some j (sym f)) (λ _ f. none_some (key_of m) (sym f)) e)
+earlier_none (Some m) None e = absurd (none-some (key_of m) (sym e))
+earlier_none (Some m) (Some j) e = absurd (cond_both (before j (key_of m)) (Some j) (Some (key_of m)) (λ o. o ≡ None → ⊥) (λ _ f. none-some j (sym f)) (λ _ f. none-some (key_of m) (sym f)) e)
 
 split : (v n : ℕ) → v < suc n → (v ≡ n) ⊎ (v < n)
 split v n h = ⊎_elim (λ e. inl e) (λ ne. inr (omega (arith, ne))) (cases_eq v n)
@@ -85,7 +85,7 @@ least_first A (suc n) k e v h l x f = go (cases_Bool (A.live n)) (split v n h) (
     go (inl t) (inr q) ih = which (least A n) refl (sym (cond-true (A.live n) _ _ t) ∙ e)
       where
         which : (o : Option Key) → least A n ≡ o → earlier (first (A.day n).waiting) (least A n) ≡ Some k → before (key_of x) k ≡ false
-        which None d g = absurd (none_some x (sym (least_none A n d v q l) ∙ f))
+        which None d g = absurd (none-some x (sym (least_none A n d v q l) ∙ f))
         which (Some j) d g = not_before (key_of x) j k (ih j d q) (earlier_last (first (A.day n).waiting) j k (ap (earlier (first (A.day n).waiting)) (sym d) ∙ g))
     go (inr t) (inl q) ih = absurd (both_ways (A.live n) t (subst (λ u. A.live u ≡ true) q l))
     go (inr t) (inr q) ih = ih k (sym (cond-false (A.live n) _ _ t) ∙ e) q
@@ -176,7 +176,7 @@ module _ (M : Meaning) (law : Law M) (A : Account) (s : Sound M A) (k : Key) (is
       also = sym (s.wait_same v w k lv lw clear) ∙ r.found
 
       go : ((m : Message) × Ran A k w m) ⊎ ((runs A k w ≡ false) × (find k (A.day w).waiting ≡ None)) → Agreed v w m
-      go (inr x) = absurd (none_some m (sym x.1 ∙ also))
+      go (inr x) = absurd (none-some m (sym x.1 ∙ also))
       go (inl x) = record {
         ran_w = subst (Ran A k w) (some_is x.0 m (sym x.1.found ∙ also)) x.1;
         place = subst (λ p. (A.day v).place p ≡ (A.day w).place p) (sym (receiver v m r)) (s.place_same v w k.receiver lv lw h'.0);
@@ -329,7 +329,7 @@ module _ (M : Meaning) (law : Law M) (A : Account) (s : Sound M A) (k : Key) (is
           marked_kept u w j a c ∙ s.marked_through u v w j m lu lv lw (waited (cases_Bool (same j k))) (sym (marked_kept u v j a b) ∙ x) (sym (marked_kept v w j b c) ∙ y)
         where
           waited : (same j k ≡ true) ⊎ (same j k ≡ false) → find j (A.day u).waiting ≡ Some m
-          waited (inl t) = absurd (none_some m (sym (cond-true (same j k) None (find j (A.day u).waiting) t) ∙ sym (find_old u j lu a) ∙ f))
+          waited (inl t) = absurd (none-some m (sym (cond-true (same j k) None (find j (A.day u).waiting) t) ∙ sym (find_old u j lu a) ∙ f))
           waited (inr t) = sym (cond-false (same j k) None (find j (A.day u).waiting) t) ∙ sym (find_old u j lu a) ∙ f
 
   pub step_sound_at : Sound M (fed_step_at M A (Some k))

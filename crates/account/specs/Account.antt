@@ -1,5 +1,5 @@
 -- The pair account: a day run alone for each variant, and what tells any two of them apart.
-use Rattle.std.specs.Prelude.{◌≡◌, ℕ, zero, suc, ◌+◌, ◌<◌, Bool, true, false, cond, not, ◌&&◌, ◌||◌, List, [], ◌∷◌, ◌++◌, length, Some, None, Option, ◌==◌}
+use Rattle.std.specs.Prelude.{◌≡◌, ℕ, zero, suc, ◌+◌, ◌<◌, Bool, true, false, if◌then◌else◌, not, ◌&&◌, ◌||◌, List, [], ◌∷◌, ◌++◌, length, Some, None, Option, ◌==◌}
 use Rattle.std.specs.List.{AllByRecursion}
 use Rattle.event.specs.declared.Message.{Message}
 use Rattle.event.specs.declared.Start.{Start}
@@ -33,7 +33,7 @@ pub record Account : Type 0 where
   pub executions : ℕ
 
 abbrev pub ind : Bool → ℕ
-ind b = cond b 1 0
+ind b = if b then 1 else 0
 
 unfoldable pub any_below : (ℕ → Bool) → ℕ → Bool
 any_below f zero = false
@@ -81,7 +81,7 @@ fed_load M A load end = record {
 
 -- whom x stood for before c was made of v
 abbrev pub origin : ℕ → ℕ → ℕ → ℕ
-origin v c x = cond (x == c) v x
+origin v c x = if x == c then v else x
 
 -- the child is its parent's equal in all, and undecided
 abbrev pub fed_branch : Account → ℕ → Account
@@ -94,7 +94,7 @@ fed_branch A v = record {
   undecided = λ x. (x == A.made) || A.undecided x;
   day = λ x. A.day (origin v A.made x);
   orders = λ x. A.orders (origin v A.made x);
-  since = λ x. cond (x == A.made) 0 (A.since x);
+  since = λ x. if x == A.made then 0 else A.since x;
   reached = λ x y p. A.reached (origin v A.made x) (origin v A.made y) p;
   marked = λ x y k. A.marked (origin v A.made x) (origin v A.made y) k;
   joint = λ x y i. A.joint (origin v A.made x) (origin v A.made y) i;
@@ -110,8 +110,8 @@ fed_decide A v place value = record {
   made = A.made;
   live = A.live;
   undecided = λ x. A.undecided x && not (x == v);
-  day = λ x. cond (x == v) (ordered (A.day v) place value) (A.day x);
-  orders = λ x. cond (x == v) (A.orders v ++ record { by = v; position = length (A.day v).journal; place = place; value = value } ∷ []) (A.orders x);
+  day = λ x. if x == v then ordered (A.day v) place value else A.day x;
+  orders = λ x. if x == v then A.orders v ++ record { by = v; position = length (A.day v).journal; place = place; value = value } ∷ [] else A.orders x;
   since = A.since;
   reached = λ x y p. A.reached x y p || (p == place && (not (x == y) && (x == v || y == v)));
   marked = A.marked;
@@ -159,12 +159,12 @@ fed_retire A v = record {
 abbrev pub earlier : Option Message → Option Key → Option Key
 earlier None o = o
 earlier (Some m) None = Some (key_of m)
-earlier (Some m) (Some k) = cond (before k (key_of m)) (Some k) (Some (key_of m))
+earlier (Some m) (Some k) = if before k (key_of m) then Some k else Some (key_of m)
 
 -- the smallest key that waits in a live variant below n
 unfoldable pub least : Account → ℕ → Option Key
 least A zero = None
-least A (suc n) = cond (A.live n) (earlier (first (A.day n).waiting) (least A n)) (least A n)
+least A (suc n) = if A.live n then earlier (first (A.day n).waiting) (least A n) else least A n
 
 abbrev pub is_key : Key → Option Message → Bool
 is_key k None = false
@@ -200,12 +200,12 @@ fed_step_at M A (Some k) = record {
   made = A.made;
   live = A.live;
   undecided = A.undecided;
-  day = λ v. cond (runs A k v) (event M A.end (A.day v)) (A.day v);
+  day = λ v. if runs A k v then event M A.end (A.day v) else A.day v;
   orders = A.orders;
   since = λ v. A.since v + ind (runs A k v);
   reached = reached_by A k;
-  marked = λ v w j. cond (sends M A k v j || sends M A k w j) (reached_by A k v w k.receiver) (A.marked v w j);
-  joint = λ v w i. cond (runs A k v && i == length (A.day v).journal) (runs A k w && not (A.marked v w k)) (A.joint v w i);
+  marked = λ v w j. if sends M A k v j || sends M A k w j then reached_by A k v w k.receiver else A.marked v w j;
+  joint = λ v w i. if runs A k v && i == length (A.day v).journal then runs A k w && not (A.marked v w k) else A.joint v w i;
   executions = A.executions + sum_below (λ v. ind (leads_run A k v)) 16;
 }
 

@@ -1,5 +1,5 @@
 -- Counting by leaders.
-use Rattle.std.specs.Prelude.{◌≡◌, ℕ, ◌+◌, Bool, true, cond, not, ◌&&◌, List, [], ◌∷◌, length}
+use Rattle.std.specs.Prelude.{◌≡◌, ℕ, ◌+◌, Bool, true, if◌then◌else◌, not, ◌&&◌, List, [], ◌∷◌, length}
 use Rattle.std.specs.List.{AllByRecursion}
 use Rattle.event.specs.declared.Key.{Key}
 use Rattle.event.specs.Keys.{key_of}
@@ -34,7 +34,7 @@ abbrev pub held_by : Account → ℕ → ℕ
 held_by A v = count (λ m. not (any_below (λ w. A.live w && (some (find (key_of m) (A.day w).waiting) && not (A.marked v w (key_of m)))) v)) (A.day v).waiting
 
 abbrev pub held : Account → ℕ
-held A = sum_below (λ v. cond (A.live v) (held_by A v) 0) 16
+held A = sum_below (λ v. if A.live v then held_by A v else 0) 16
 
 -- the messages that a step takes
 abbrev pub taken : Account → Key → ℕ
@@ -46,4 +46,4 @@ worked A k = sum_below (λ v. ind (leads_run A k v)) 16
 
 -- the entries that stand in a live variant's journal
 abbrev pub entries : Account → ℕ
-entries A = sum_below (λ v. cond (A.live v) (sum_below (λ i. ind (not (any_below (λ w. A.live w && A.joint v w i) v))) (length (A.day v).journal)) 0) 16
+entries A = sum_below (λ v. if A.live v then sum_below (λ i. ind (not (any_below (λ w. A.live w && A.joint v w i) v))) (length (A.day v).journal) else 0) 16

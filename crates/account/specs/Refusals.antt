@@ -1,5 +1,5 @@
 -- When a call is denied, and what any list of calls leads to.
-use Rattle.std.specs.Prelude.{ℕ, suc, ◌+◌, ◌*◌, Bool, false, cond, not, List, [], ◌∷◌, Some, None, Option, nat_le, nat_lt}
+use Rattle.std.specs.Prelude.{ℕ, suc, ◌+◌, ◌*◌, Bool, false, if◌then◌else◌, not, List, [], ◌∷◌, Some, None, Option, nat_le, nat_lt}
 use Rattle.event.specs.declared.Start.{Start}
 use Rattle.event.specs.declared.Key.{Key}
 use Rattle.model.specs.Meaning.{Meaning}
@@ -13,10 +13,10 @@ pub record Refusal : Type 0 where
 
 -- the first that holds
 abbrev pub first_of : Bool → ℕ → Option Refusal → Option Refusal
-first_of b n o = cond b (Some (record { number = n; position = 0 })) o
+first_of b n o = if b then Some (record { number = n; position = 0 }) else o
 
 abbrev pub first_at : Bool → ℕ → ℕ → Option Refusal → Option Refusal
-first_at b n i o = cond b (Some (record { number = n; position = i })) o
+first_at b n i o = if b then Some (record { number = n; position = i }) else o
 
 -- starting messages from position i on
 abbrev pub bad_start : Meaning → ℕ → ℕ → ℕ → List Start → Option Refusal
