@@ -3,8 +3,8 @@
 
 #[cfg(test)]
 mod tests {
-    use collection::{Collection, FARTHEST, MILKED};
-    use day::{DayFault, LoneDay};
+    use collection::{Collection, Kind, Preference};
+    use day::{DayFault, LoneDay, Stop};
     use event::{Message, Start};
     use refusal::{Layer, Refusal};
     use std::alloc::Global;
@@ -30,7 +30,7 @@ mod tests {
         Start {
             time,
             receiver: farm,
-            kind: MILKED,
+            kind: Kind::Milked.into(),
             data: litres,
         }
     }
@@ -93,11 +93,46 @@ mod tests {
     }
 
     #[test]
+    fn a_run_tells_each_event(rt: HostRuntime) -> Result<(), Fail> {
+        let starts = [milked(2, 1000, 0), milked(1, 500, 5), milked(3, 500, 5)];
+        let mut day = day(rt.alloc(), 3, 1, 512, &starts, 3000)?;
+        let mut told: u32 = 0;
+        let mut last = 0;
+        let ended = day.run(|_, ran| -> Result<(), DayFault> {
+            told = told.saturating_add(1);
+            last = ran.message.time;
+            Ok(())
+        });
+        assert!(rt; ended.is_ok());
+        assert_eq!(rt; (told, last), (15, 2666));
+        assert!(rt; day.waiting().is_empty());
+        Ok(())
+    }
+
+    #[test]
+    fn a_run_stops_where_it_cannot_tell_or_is_refused(rt: HostRuntime) -> Result<(), Fail> {
+        let starts = [milked(2, 1000, 0), milked(1, 500, 5), milked(3, 500, 5)];
+        let mut untold = day(rt.alloc(), 3, 1, 512, &starts, 3000)?;
+        let ended = untold.run(|_, ran| if ran.message.time < 6 {
+            Ok(())
+        } else {
+            Err(ran.message.receiver)
+        });
+        assert!(rt; matches!(ended, Err(Stop::Untold(0))));
+        assert_eq!(rt; untold.events(), 6);
+        let mut full = day(rt.alloc(), 3, 1, 3, &starts, 3000)?;
+        let ended = full.run(|_, _| -> Result<(), u32> { Ok(()) });
+        assert!(rt; matches!(ended, Err(Stop::Refused(DayFault::Room))));
+        assert_eq!(rt; full.events(), 0);
+        Ok(())
+    }
+
+    #[test]
     fn an_order_sends_the_tanker_to_the_farthest(rt: HostRuntime) -> Result<(), Fail> {
         let starts = [milked(2, 1000, 0), milked(1, 500, 5), milked(3, 500, 5)];
         let mut day = day(rt.alloc(), 3, 1, 512, &starts, 3000)?;
         runs(&rt, &mut day, &SHARED)?;
-        day.order(0, FARTHEST)?;
+        day.order(0, Preference::Farthest.into())?;
         let rest = [
             (902, 2, 4, 0, 4, 0),
             (1003, 4, 2, 1, 5, 1000),
@@ -163,10 +198,8 @@ mod tests {
         end: u32,
     ) -> Result<Option<Refusal>, Fail> {
         let model = Collection::new(1, 1)?;
-        match LoneDay::load(heap, model, capacity, starts, end) {
-            Ok(_) => Ok(None),
-            Err(fault) => Ok(Some(fault.refusal())),
-        }
+        let day = LoneDay::load(heap, model, capacity, starts, end);
+        Ok(day.err().map(Refusal::from))
     }
 
     #[test]
@@ -204,11 +237,10 @@ mod tests {
     fn a_full_calendar_runs_no_event(rt: HostRuntime) -> Result<(), Fail> {
         let starts = [milked(1, 5, 0), milked(1, 5, 1)];
         let mut full = day(rt.alloc(), 1, 1, 2, &starts, 30)?;
-        let refused = match full.event() {
-            Ok(_) => None,
-            Err(fault) => Some(fault.refusal()),
-        };
-        assert_eq!(rt; refused, Some(told(7, Layer::Study, 0)));
+        assert_eq!(rt;
+            full.event().err().map(Refusal::from),
+            Some(told(7, Layer::Study, 0))
+        );
         assert_eq!(rt; full.events(), 0);
         assert_eq!(rt; full.waiting().len(), 2);
         let mut roomy = day(rt.alloc(), 1, 1, 3, &starts, 30)?;

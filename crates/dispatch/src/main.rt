@@ -6,10 +6,11 @@ ghost use Rattle.dispatch.specs.Position.{position_of};
 
 use anyhow::anyhow;
 use collection::Collection;
-use day::{DayFault, LoneDay};
+use day::{DayFault, LoneDay, Stop};
 use dayfile::Plan;
 use model::ModelFault;
-use report::{Deed, Heading, Line, fault_words, summary};
+use refusal::Refusal;
+use report::{Deed, Heading, Line, summary};
 use std::alloc::Global;
 use std::process::ExitCode;
 use std::{env, fs};
@@ -17,42 +18,33 @@ use std::{env, fs};
 // The messages that a calendar holds.
 const CAPACITY: u16 = 512;
 
-// More than the events that a day can run.
-const TURNS: usize = 2049;
-
 // Where in the starting list a fault lies, if it lies there.
 fn position(fault: DayFault) -> Option<u32>
     ensures { result ≡ position_of fault }
 {
     match fault {
-        DayFault::StartPlace(i) => Some(i),
-        DayFault::StartTime(i) => Some(i),
-        DayFault::StartRoom(i) => Some(i),
+        DayFault::StartPlace(i) | DayFault::StartTime(i) | DayFault::StartRoom(i) => Some(i),
         _ => None,
     }
 }
 
 // Why the day is refused, with the line of the file where one is to blame.
 fn refused(heap: Global, plan: &Plan, fault: DayFault) -> anyhow::Error {
-    let number = fault.refusal().number;
-    let words = fault_words(fault);
-    let line = match position(fault) {
-        Some(i) => plan.lines.get(i as usize),
-        None => None,
-    };
-    let told = match line {
-        Some(line) => format!(in heap; "line {line}: refused {number}: {words}"),
-        None => format!(in heap; "refused {number}: {words}"),
+    let number = Refusal::from(fault).number;
+    let milking = position(fault).and_then(|i| plan.milkings.get(i as usize));
+    let told = match milking {
+        Some(milking) => format!(in heap; "line {}: refused {number}: {fault}", milking.line),
+        None => format!(in heap; "refused {number}: {fault}"),
     };
     match told {
         Ok(text) => anyhow!(text),
-        Err(_) => anyhow!(words),
+        Err(_) => fault.into(),
     }
 }
 
 // Why there is no model.
 fn unmade(heap: Global, fault: ModelFault) -> anyhow::Error {
-    let number = fault.refusal().number;
+    let number = Refusal::from(fault).number;
     match format!(in heap; "refused {number}: there are 1 to 10 farms and 1 to 6 tankers") {
         Ok(text) => anyhow!(text),
         Err(e) => e.into(),
@@ -61,34 +53,29 @@ fn unmade(heap: Global, fault: ModelFault) -> anyhow::Error {
 
 // Runs the day to its last event, a line for each.
 fn run_day(rt: &HostRuntime, plan: &Plan, day: &mut LoneDay<Collection>) -> anyhow::Result<()> {
-    for _ in 0..TURNS {
-        match day.event() {
-            Ok(Some(ran)) => {
-                let deed = Deed::of(day.model(), &ran);
-                let line = Line {
-                    time: ran.message.time,
-                    deed,
-                };
-                println!(rt; "{line}")?;
-            }
-            Ok(None) => return Ok(()),
-            Err(fault) => return Err(refused(rt.alloc(), plan, fault)),
-        }
-    }
-    Ok(())
+    let ended = day.run(|model, ran| {
+        let line = Line {
+            time: ran.message.time,
+            deed: Deed::of(model, ran),
+        };
+        println!(rt; "{line}")
+    });
+    ended.map_err(|stop| match stop {
+        Stop::Refused(fault) => refused(rt.alloc(), plan, fault),
+        Stop::Untold(error) => error.into(),
+    })
 }
 
 // Prints the day of a plan.
 fn print_day(rt: &HostRuntime, plan: &Plan) -> anyhow::Result<()> {
     let heap = rt.alloc();
-    let model = match Collection::new(plan.farms, plan.tankers) {
-        Ok(model) => model,
-        Err(fault) => return Err(unmade(heap, fault)),
-    };
-    let mut day = match LoneDay::load(heap, model, CAPACITY, plan.starts.as_slice(), plan.end) {
-        Ok(day) => day,
-        Err(fault) => return Err(refused(heap, plan, fault)),
-    };
+    let model = Collection::new(plan.farms, plan.tankers).map_err(|fault| unmade(heap, fault))?;
+    let starts = plan
+        .starts(heap)
+        .map_err(|_| refused(heap, plan, DayFault::Memory))?;
+    let mut day = LoneDay::load(heap, model, CAPACITY, starts.as_slice(), plan.end).map_err(
+        |fault| refused(heap, plan, fault),
+    )?;
     let heading = Heading {
         farms: plan.farms,
         tankers: plan.tankers,
@@ -96,8 +83,7 @@ fn print_day(rt: &HostRuntime, plan: &Plan) -> anyhow::Result<()> {
     };
     println!(rt; "{heading}")?;
     run_day(rt, plan, &mut day)?;
-    let facts = summary(heap, &day)?;
-    for fact in facts.iter() {
+    for fact in summary(heap, &day)?.iter() {
         println!(rt; "{fact}")?;
     }
     Ok(())
@@ -106,9 +92,7 @@ fn print_day(rt: &HostRuntime, plan: &Plan) -> anyhow::Result<()> {
 // Tells the status: a file that cannot be read ends with its own message.
 fn run(rt: &HostRuntime) -> anyhow::Result<ExitCode> {
     let mut args = env::args(rt)?;
-    let Some(path) = args.nth(1) else {
-        return Err(anyhow!("usage: dispatch FILE"));
-    };
+    let path = args.nth(1).ok_or_else(|| anyhow!("usage: dispatch FILE"))?;
     let text = match fs::read(rt, path.as_str()) {
         Ok(text) => text,
         Err(e) => {

@@ -2,11 +2,12 @@
 #![tactic(auto)]
 
 use anyhow::anyhow;
-use day::LoneDay;
+use day::{LoneDay, Stop};
 use event::{Message, Start};
 use phold::Phold;
 use refusal::Refusal;
 use std::alloc::Global;
+use std::io;
 use streams::draws;
 
 const PLACES: u8 = 4;
@@ -19,9 +20,6 @@ const END: u32 = 500;
 
 // The messages that a calendar holds.
 const CAPACITY: u16 = 512;
-
-// More than the events that a day can run.
-const TURNS: usize = 2049;
 
 // Once so many events have run, an order is given to a place.
 const EVENTS_BEFORE: usize = 20;
@@ -63,34 +61,42 @@ const STARTS: [Start; 5] = [
     },
 ];
 
-fn refused(heap: Global, refusal: Refusal) -> anyhow::Error {
-    let number = refusal.number;
+fn refused<F>(heap: Global, fault: F) -> anyhow::Error
+where
+    Refusal: From<F>,
+{
+    let number = Refusal::from(fault).number;
     match format!(in heap; "refused {number}") {
         Ok(text) => anyhow!(text),
         Err(_) => anyhow!("refused"),
     }
 }
 
+fn stopped(heap: Global, stop: Stop<io::Error>) -> anyhow::Error {
+    match stop {
+        Stop::Refused(fault) => refused(heap, fault),
+        Stop::Untold(error) => error.into(),
+    }
+}
+
+fn print_event(rt: &HostRuntime, m: &Message) -> io::Result<()> {
+    println!(rt;
+        "time {} receiver {} sender {} number {} data {}",
+        m.time, m.receiver, m.sender, m.number, m.data
+    )
+}
+
 // Runs at most so many events, a line for each.
-fn run_events(rt: &HostRuntime, day: &mut LoneDay<Phold>, most: usize) -> anyhow::Result<()> {
+fn run_events(
+    rt: &HostRuntime,
+    day: &mut LoneDay<Phold>,
+    most: usize,
+) -> Result<(), Stop<io::Error>> {
     for _ in 0..most {
-        match day.event() {
-            Ok(Some(ran)) => {
-                let Message {
-                    time,
-                    receiver,
-                    sender,
-                    number,
-                    kind: _,
-                    data,
-                } = ran.message;
-                println!(rt;
-                    "time {time} receiver {receiver} sender {sender} number {number} data {data}"
-                )?;
-            }
-            Ok(None) => return Ok(()),
-            Err(fault) => return Err(refused(rt.alloc(), fault.refusal())),
-        }
+        let Some(ran) = day.event()? else {
+            return Ok(());
+        };
+        print_event(rt, &ran.message).map_err(Stop::Untold)?;
     }
     Ok(())
 }
@@ -108,24 +114,16 @@ fn print_places(rt: &HostRuntime, day: &LoneDay<Phold>) -> anyhow::Result<()> {
 }
 
 fn load_day(heap: Global) -> anyhow::Result<LoneDay<Phold>> {
-    let model = match Phold::new(PLACES, SEED, REPLICATION) {
-        Ok(model) => model,
-        Err(fault) => return Err(refused(heap, fault.refusal())),
-    };
-    match LoneDay::load(heap, model, CAPACITY, &STARTS, END) {
-        Ok(day) => Ok(day),
-        Err(fault) => Err(refused(heap, fault.refusal())),
-    }
+    let model = Phold::new(PLACES, SEED, REPLICATION).map_err(|fault| refused(heap, fault))?;
+    LoneDay::load(heap, model, CAPACITY, &STARTS, END).map_err(|fault| refused(heap, fault))
 }
 
 // Runs the day to its last event, with an order on the way.
-fn run_day(rt: &HostRuntime, day: &mut LoneDay<Phold>) -> anyhow::Result<()> {
+fn run_day(rt: &HostRuntime, day: &mut LoneDay<Phold>) -> Result<(), Stop<io::Error>> {
     run_events(rt, day, EVENTS_BEFORE)?;
-    if let Err(fault) = day.order(ORDERED, ORDER) {
-        return Err(refused(rt.alloc(), fault.refusal()));
-    }
-    println!(rt; "order {ORDER} at place {ORDERED}")?;
-    run_events(rt, day, TURNS)
+    day.order(ORDERED, ORDER)?;
+    println!(rt; "order {ORDER} at place {ORDERED}").map_err(Stop::Untold)?;
+    day.run(|_, ran| print_event(rt, &ran.message))
 }
 
 fn run(rt: &HostRuntime) -> anyhow::Result<()> {
@@ -135,7 +133,7 @@ fn run(rt: &HostRuntime) -> anyhow::Result<()> {
         "PHOLD with {PLACES} places, seed {SEED}, replication {REPLICATION}, until {END}"
     )?;
     let mut day = load_day(rt.alloc())?;
-    run_day(rt, &mut day)?;
+    run_day(rt, &mut day).map_err(|stop| stopped(rt.alloc(), stop))?;
     print_places(rt, &day)
 }
 
