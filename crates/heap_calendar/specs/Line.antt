@@ -1,9 +1,7 @@
 -- What a queue is for its callers.
-use Rattle.std.specs.Prelude.{ℕ, ◌≤◌, List, [], ◌∷◌, length}
+use Rattle.std.specs.Prelude.{ℕ, ◌≤◌, List, length}
 use Rattle.std.specs.declared.collections.BinaryHeap.{BinaryHeap}
 use Rattle.std.specs.BinaryHeap.{heap_items, heap_len}
-use Rattle.std.specs.Coded.{Coded-set, coded_bool, ×_prop, Unit-prop}
-use Rattle.std.specs.List.{AllByRecursion-prop}
 use Rattle.std.proofs.Common.{arith}
 use Rattle.event.specs.Lists.{Sorted}
 use Rattle.calendar.specs.declared.Held.{Held}
@@ -22,8 +20,3 @@ pub record Line : Type 0 where
 -- a heap holds in order as many as it has
 pub fits_in_order : {A : Type 0} (h : BinaryHeap Slot A) → heap_len h ≤ 512 → length (in_order (heap_items h)) ≤ 512
 fits_in_order h k = omega (arith, length_in_order (heap_items h), h.«data».ok.0)
-
--- a list is sorted in at most one way, so that lines with the same messages and age are the same
-pub sorted_prop : (xs : List Held) → IsProp (Sorted key_of_held xs)
-sorted_prop [] = Unit-prop
-sorted_prop (x ∷ xs) = ×_prop (AllByRecursion-prop _ (λ y. Coded-set coded_bool _ _) xs) (sorted_prop xs)

@@ -10,7 +10,8 @@ ghost use Rattle.slot.specs.Rank.{ranked};
 ghost use Rattle.slot.specs.Slots.{earlier, turned, in_order};
 ghost use Rattle.slot.proofs.Holds.{in_order_sorted};
 ghost use Rattle.heap_calendar.specs.Changes.{Gives, KeepsKeys};
-ghost use Rattle.heap_calendar.specs.Line.{Line, sorted_prop, fits_in_order};
+ghost use Rattle.heap_calendar.specs.Line.{Line, fits_in_order};
+ghost use Rattle.slot.specs.Props.{sorted_prop};
 ghost use Rattle.heap_calendar.specs.Totals.{Sound};
 
 use crate::store::CAPACITY;

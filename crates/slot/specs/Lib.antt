@@ -1,3 +1,4 @@
+pub mod Props
 pub mod Rank
 pub mod Slots
 pub mod Laws

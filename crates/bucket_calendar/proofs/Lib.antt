@@ -1,0 +1,3 @@
+pub mod Firsts
+pub mod Moves
+pub mod Maps

@@ -1,0 +1,4 @@
+pub mod Heads
+pub mod Line
+pub mod Changes
+pub mod Laws
