@@ -133,28 +133,43 @@ def hand_matches():
     return found
 
 
-print("POINT 1: own enums, numbers for kinds, faults as Options, flags with a value")
-show("own enums", lines(r"^\s*(pub(\([a-z]+\))? )?enum "))
-show("constants of u8 or u32", lines(r"^\s*(pub )?const [A-Z_]+: u(8|32) = "))
-show("faults in an Option, taken out by hand", lines(r"-> Option<\w*Fault>|if let Some\(fault\)"))
-show("flags beside a value", lines(r"\(bool, |, bool\)"))
-show("numbers for kinds or refusals in a type", lines(r"^\s*pub (number|kind|layer): "))
-print("POINT 2: twins")
-show("functions with one body but for names and numbers", twins())
-print("POINT 3: loops")
-show("loops over numbers, with a count or with an index by hand", lines(r"for \w+ in [^{]*\.\.|enumerate\(\)|\+= 1;|\bwhile\b"))
-show("loops over elements that a chain says", lines(r"for \w+ in (?![^{]*\.\.)(?!.*enumerate)"))
-print("POINT 4: equality, order, copying, conversion and printing by hand")
-show("orders and equalities", lines(r"impl (PartialEq|Eq|PartialOrd|Ord)\b|fn (precedes|comes_before|one_key|cmp)\b"))
-show("conversions by functions", lines(r"fn (refusal|fault_words|arrival|words)\b"))
-show("conversions by `as` that From does", lines(r"\b(capacity|farms|farm|k|p|receiver|place) as (usize|u32|u64)\b|MAX as u32|\.receiver as usize"))
-show("structs built anew field by field", lines(r"^\s*\w+: self\.\w+,$"))
-show("matches that a method says", hand_matches())
-print("POINT 5: facts and parameters that return")
-show("clauses of three or more contracts", clauses())
-show("parameters that travel together", together())
-print("POINT 6: vectors and arrays")
-show("fields that are vectors or heaps", lines(r"^\s*(pub(\([a-z]+\))? )?\w+: (Vec|BinaryHeap|&'a \[)<?"))
-show("elements by number", lines(r"\ball\[\d\]|\.len\(\) == \d"))
-print("POINT 7: switches on which step or test to run")
-show("enums passed to say what to do", lines(r"\b(pick|mark): (Pick|Mark)\b|fn is\(self"))
+# Each point with its lists of candidates: a title, and a pattern of lines or a function that finds them.
+POINTS = [
+    ("POINT 1: own enums, numbers for kinds, faults as Options, flags with a value", [
+        ("own enums", r"^\s*(pub(\([a-z]+\))? )?enum "),
+        ("constants of u8 or u32", r"^\s*(pub )?const [A-Z_]+: u(8|32) = "),
+        ("faults in an Option, taken out by hand", r"-> Option<\w*Fault>|if let Some\(fault\)"),
+        ("flags beside a value", r"\(bool, |, bool\)"),
+        ("numbers for kinds or refusals in a type", r"^\s*pub (number|kind|layer): "),
+    ]),
+    ("POINT 2: twins", [
+        ("functions with one body but for names and numbers", twins),
+    ]),
+    ("POINT 3: loops", [
+        ("loops over numbers, with a count or with an index by hand", r"for \w+ in [^{]*\.\.|enumerate\(\)|\+= 1;|\bwhile\b"),
+        ("loops over elements that a chain says", r"for \w+ in (?![^{]*\.\.)(?!.*enumerate)"),
+    ]),
+    ("POINT 4: equality, order, copying, conversion and printing by hand", [
+        ("orders and equalities", r"impl (PartialEq|Eq|PartialOrd|Ord)\b|fn (precedes|comes_before|one_key|cmp)\b"),
+        ("conversions by functions", r"fn (refusal|fault_words|arrival|words)\b"),
+        ("conversions by `as` that From does", r"\b(capacity|farms|farm|k|p|receiver|place) as (usize|u32|u64)\b|MAX as u32|\.receiver as usize"),
+        ("structs built anew field by field", r"^\s*\w+: self\.\w+,$"),
+        ("matches that a method says", hand_matches),
+    ]),
+    ("POINT 5: facts and parameters that return", [
+        ("clauses of three or more contracts", clauses),
+        ("parameters that travel together", together),
+    ]),
+    ("POINT 6: vectors and arrays", [
+        ("fields that are vectors or heaps", r"^\s*(pub(\([a-z]+\))? )?\w+: (Vec|BinaryHeap|&'a \[)<?"),
+        ("elements by number", r"\ball\[\d\]|\.len\(\) == \d"),
+    ]),
+    ("POINT 7: switches on which step or test to run", [
+        ("enums passed to say what to do", r"\b(pick|mark): (Pick|Mark)\b|fn is\(self"),
+    ]),
+]
+
+for point, lists in POINTS:
+    print(point)
+    for title, wanted in lists:
+        show(title, lines(wanted) if isinstance(wanted, str) else wanted())
