@@ -6,11 +6,10 @@ use Rattle.std.proofs.ByRecursion.{All-weaker, All-from_get_or, All-get_or, all_
 use Rattle.std.proofs.lemmas.List.Sums.{fails_before_first, passes_at_first}
 use Rattle.std.proofs.lemmas.List.Sorted.{IsPermutation-sym, IsPermutation-to_front, IsPermutation-swap_remove}
 use Rattle.std.proofs.lemmas.Bool.{cases_Bool, cases_lt, both_ways, not-true}
-use Rattle.std.proofs.lemmas.Option.{none-some, same_Some}
 use Rattle.event.specs.Lists.{insert, first as head}
 use Rattle.calendar.specs.Calls.{key_of_held}
 use Rattle.slot.specs.Rank.{ins, ranked, Rising}
-use Rattle.slot.proofs.Picks.{never_self}
+use Rattle.slot.proofs.Picks.{first_rest, never_self}
 use Rattle.slot.proofs.Ranks.{ranked_shuffled, ins_front, all_ranked, ranked_rising}
 use Rattle.slot.specs.declared.Slot.{Slot}
 use Rattle.slot.specs.Slots.{earlier, steady, bare, in_order, Young}
@@ -39,10 +38,6 @@ ranked_out xs ys x s g =
     let all = all_shuffled (λ y. earlier y x ≡ false) xs (x ∷ ys) s g in
     sym (ranked_shuffled earlier strictly xs (x ∷ ys) s) ∙ ins_front earlier strictly x (ranked earlier ys) (all_ranked earlier strictly (λ y. earlier y x ≡ false) ys all.1)
 
-pub first_rest : {X : Type 0} (l : List X) (x : X) → head l ≡ Some x → (t : List X) × (l ≡ x ∷ t)
-first_rest [] x e = absurd (none-some x e)
-first_rest (y ∷ l) x e = (l, ap (λ z. z ∷ l) (same_Some y x e))
-
 pub sound_none : (n : ℕ) (hs : List _) (xs : List Slot) → xs ≡ [] → Led hs [] → Sound n hs xs
 unfolding steady
 sound_none n hs xs e d = subst (Sound n hs) (sym e) (record { young = λ k d a b. absurd (let z : ⊥ = omega arith in z); apart = refl; heads_led = d })
@@ -64,8 +59,8 @@ all_from_ranked P (x ∷ l) h = let r = all_from_ins P x (ranked earlier l) h in
 -- the first comes before no other
 least : (xs : List Slot) (x : Slot) → head (ranked earlier xs) ≡ Some x → AllByRecursion (λ y. earlier y x ≡ false) xs
 least xs x e =
-    let f = first_rest (ranked earlier xs) x e in
-    all_from_ranked (λ y. earlier y x ≡ false) xs (subst (AllByRecursion (λ y. earlier y x ≡ false)) (sym f.1) (never_self earlier strictly x, (subst (Rising earlier) f.1 (ranked_rising earlier strictly xs)).0))
+    let f = first_rest (ranked earlier xs) x (sym e) in
+    all_from_ranked (λ y. earlier y x ≡ false) xs (subst (AllByRecursion (λ y. earlier y x ≡ false)) (sym f) (never_self earlier strictly x, (subst (Rising earlier) f (ranked_rising earlier strictly xs)).0))
 
 true_from_not : (b : Bool) → not b ≡ false → b ≡ true
 true_from_not true h = refl
@@ -82,8 +77,8 @@ module _ (xs : List Slot) (x : Slot) (e : head (ranked earlier xs) ≡ Some x) w
       nowhere : length xs ≤ place → ⊥
       nowhere h =
           let all : AllByRecursion (λ y. earlier x y ≡ true) xs = All-from_get_or (λ y. earlier x y ≡ true) xs x (λ i l. true_from_not (earlier x (get_or xs i x)) (fails_before_first (λ y. not (earlier x y)) xs i x (omega (arith, h, l)))) in
-          let f = first_rest (ranked earlier xs) x e in
-          both_ways (earlier x x) (never_self earlier strictly x) (subst (AllByRecursion (λ y. earlier x y ≡ true)) f.1 (all_ranked earlier strictly (λ y. earlier x y ≡ true) xs all)).0
+          let f = first_rest (ranked earlier xs) x (sym e) in
+          both_ways (earlier x x) (never_self earlier strictly x) (subst (AllByRecursion (λ y. earlier x y ≡ true)) f (all_ranked earlier strictly (λ y. earlier x y ≡ true) xs all)).0
 
   -- and nothing else is
   pub is_first : (d : Slot) → get_or xs place d ≡ x

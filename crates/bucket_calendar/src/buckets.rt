@@ -9,7 +9,8 @@ ghost use Rattle.slot.specs.Rank.{ranked};
 ghost use Rattle.slot.specs.Slots.{earlier, in_order};
 ghost use Rattle.slot.proofs.Holds.{in_order_sorted};
 ghost use Rattle.bucket_calendar.specs.Heads.{Sound};
-ghost use Rattle.bucket_calendar.specs.Changes.{Gives, changed};
+ghost use Rattle.bucket_calendar.specs.Changes.{changed};
+ghost use Rattle.slot.specs.Passes.{Gives};
 ghost use Rattle.bucket_calendar.specs.Line.{Line, fits_in_order};
 ghost use Rattle.slot.specs.Props.{sorted_prop};
 

@@ -6,9 +6,8 @@ use Rattle.std.specs.Prelude.{IfSome}
 use Rattle.std.proofs.lemmas.Bool.{cases_Bool}
 use Rattle.std.proofs.lemmas.List.{take_more}
 use Rattle.std.proofs.lemmas.List.Elements.{filter_map-append}
-use Rattle.std.proofs.lemmas.Option.{none-some, same_Some}
 use Rattle.event.specs.Keys.{before}
-use Rattle.event.specs.Lists.{insert, first, rest, Sorted}
+use Rattle.event.specs.Lists.{insert, Sorted}
 use Rattle.calendar.specs.declared.Held.{Held}
 use Rattle.calendar.specs.Calls.{key_of_held}
 use Rattle.slot.proofs.Holds.{insert_last, sorted_front}
@@ -46,8 +45,3 @@ all_given f (x ∷ l) = ap (λ t. f x ∷ t) (all_given f l)
 pub passing_given : (f : Held → Held) (p : Held → Bool) (l : List Held) → filter_map (λ x. then_some (p (f x)) (f x)) l ≡ filter p (map f l)
 passing_given f p [] = refl
 passing_given f p (x ∷ l) = ⊎_elim (λ (t : p (f x) ≡ true). simp t (ap (λ r. f x ∷ r) (passing_given f p l))) (λ (t : p (f x) ≡ false). simp t (passing_given f p l)) (cases_Bool (p (f x)))
-
--- a list is its first and the rest
-pub first_rest : {X : Type 0} (l : List X) (x : X) → Some x ≡ first l → l ≡ x ∷ rest l
-first_rest [] x e = absurd (none-some x (sym e))
-first_rest (y ∷ l) x e = ap (λ z. z ∷ l) (same_Some y x (sym e))

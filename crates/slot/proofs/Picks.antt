@@ -3,10 +3,16 @@ use Rattle.std.proofs.Common.{◌≡◌, ℕ, zero, suc, ◌≤◌, Bool, true, 
 use Rattle.std.specs.List.{AllByRecursion, fold, reduce}
 use Rattle.std.proofs.ByRecursion.{All-weaker, all_kept_by}
 use Rattle.std.proofs.lemmas.Bool.{cases_Bool, both_ways, cond_both}
-use Rattle.event.specs.Lists.{first as head}
+use Rattle.std.proofs.lemmas.Option.{none-some, same_Some}
+use Rattle.event.specs.Lists.{first as head, rest}
 use Rattle.std.specs.List.{slice_get}
 use Rattle.slot.specs.Rank.{ins, ranked, Strict, Rising}
 use Rattle.slot.proofs.Ranks.{ins_comm, ranked_rising}
+
+-- a list is its first and the rest
+pub first_rest : {X : Type 0} (l : List X) (x : X) → Some x ≡ head l → l ≡ x ∷ rest l
+first_rest [] x e = absurd (none-some x (sym e))
+first_rest (y ∷ l) x e = ap (λ z. z ∷ l) (same_Some y x (sym e))
 
 pub kept_both : {X : Type 0} (p q : X → Bool) (l : List X) → filter (λ x. p x && q x) l ≡ filter q (filter p l)
 kept_both p q [] = refl

@@ -5,7 +5,7 @@ ghost use Rattle.std.specs.List.{slice_get};
 ghost use Rattle.slot.specs.declared.Slot.{Slot};
 ghost use Rattle.slot.specs.Rank.{ranked};
 ghost use Rattle.slot.specs.Slots.{earlier, steady};
-ghost use Rattle.slot.specs.Passes.{Tests, admits};
+ghost use Rattle.slot.specs.Passes.{Gives, admits};
 
 use crate::Slot;
 use crate::order::comes_before;
@@ -17,7 +17,7 @@ pub fn first_after<F: Fn(&Slot) -> bool>(
     after: Option<Slot>,
 ) -> Option<Slot>
     requires { F.IsAlwaysCallable test }
-    ensures { (p : Slot → Bool) → Tests F.Fn test p → result ≡ first (filter (admits p after) (ranked earlier slots.now)) }
+    ensures { (p : Slot → Bool) → Gives F.Fn test p → result ≡ first (filter (admits p after) (ranked earlier slots.now)) }
 {
     slots
         .iter()
@@ -29,7 +29,7 @@ pub fn first_after<F: Fn(&Slot) -> bool>(
 // Number i of those that pass the test, where key and age tell all apart.
 pub fn nth<F: Fn(&Slot) -> bool>(slots: &[Slot], test: F, i: usize) -> Option<Slot>
     requires { F.IsAlwaysCallable test }
-    ensures { (p : Slot → Bool) → Tests F.Fn test p → steady (ranked earlier slots.now) ≡ true → result ≡ slice_get (filter p (ranked earlier slots.now)) i }
+    ensures { (p : Slot → Bool) → Gives F.Fn test p → steady (ranked earlier slots.now) ≡ true → result ≡ slice_get (filter p (ranked earlier slots.now)) i }
 {
     let mut last = first_after(slots, &test, None)?;
     for _ in 0..i {

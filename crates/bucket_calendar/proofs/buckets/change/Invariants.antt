@@ -1,7 +1,8 @@
 -- The front is changed, and the rest is as it was.
 use Rattle.std.proofs.Common.{◌≡◌, ◌++◌, map, take, drop}
 use Rattle.calendar.specs.declared.Held.{Held}
-use Rattle.bucket_calendar.specs.Changes.{Gives, changed}
+use Rattle.bucket_calendar.specs.Changes.{changed}
+use Rattle.slot.specs.Passes.{Gives}
 use Rattle.bucket_calendar.proofs.buckets.change.Given as goal
 
 abbrev pub invariant-loop-s : goal.invariant-loop-s

@@ -4,8 +4,8 @@ use Rattle.std.specs.List.{slice_get}
 use Rattle.slot.specs.declared.Slot.{Slot}
 use Rattle.slot.specs.Rank.{ranked}
 use Rattle.slot.specs.Slots.{earlier, steady}
-use Rattle.slot.specs.Passes.{Tests}
+use Rattle.slot.specs.Passes.{Gives}
 use Rattle.slot.proofs.pick.nth.Given as goal
 
 abbrev pub invariant-loop : goal.invariant-loop
-invariant-loop g l = (p : Slot → Bool) → Tests g.F.Fn l.test p → steady (ranked earlier l.slots) ≡ true → Some l.last ≡ slice_get (filter p (ranked earlier l.slots)) l.counter
+invariant-loop g l = (p : Slot → Bool) → Gives g.F.Fn l.test p → steady (ranked earlier l.slots) ≡ true → Some l.last ≡ slice_get (filter p (ranked earlier l.slots)) l.counter

@@ -2,7 +2,8 @@
 use Rattle.std.proofs.Common.{◌≡◌, ◌≤◌, length, take, Option}
 use Rattle.std.specs.List.{filter_map}
 use Rattle.calendar.specs.declared.Held.{Held}
-use Rattle.heap_calendar.specs.Changes.{Gives, KeepsKeys}
+use Rattle.heap_calendar.specs.Changes.{KeepsKeys}
+use Rattle.slot.specs.Passes.{Gives}
 use Rattle.heap_calendar.proofs.queue.Queue.put_back.Given as goal
 
 abbrev pub invariant-loop-h : goal.invariant-loop-h
