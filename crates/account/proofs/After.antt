@@ -1,7 +1,7 @@
 -- What stands after any accepted calls.
 use Rattle.std.proofs.Common.{arith}
 use Rattle.model.specs.Meaning.{Meaning, Law}
-use Rattle.account.specs.Account.{Account, Call, load, branch, decide, waive, step, retire, fed, Accepted, After, begun, one_more}
+use Rattle.account.specs.Account.{Account, Call, load, branch, decide, waive, step, retire, reading, fed, Accepted, After, begun, one_more}
 use Rattle.account.specs.Sound.{Sound, Faithful, Bounded}
 use Rattle.account.specs.Claims.{SoundStands, AloneStands, BoundedStands}
 use Rattle.account.proofs.Calls.{empty_sound, load_sound, branch_sound, decide_sound, waive_sound, retire_sound}
@@ -16,6 +16,7 @@ fed_sound M law A (decide v place value) a s = decide_sound M A v place value s
 fed_sound M law A (waive v) a s = waive_sound M A v s
 fed_sound M law A step a s = step_sound M law A s
 fed_sound M law A (retire v) a s = retire_sound M A v s a.1
+fed_sound M law A (reading r) a s = s
 
 pub sound_after : {M : Meaning} {A : Account} → Law M → After M A → Sound M A
 sound_after {M} law begun = empty_sound M
@@ -31,6 +32,7 @@ fed_faithful M A (decide v place value) a s = decide_faithful M A v place value 
 fed_faithful M A (waive v) a s = waive_faithful M A v s
 fed_faithful M A step a s = step_faithful M A s
 fed_faithful M A (retire v) a s = retire_faithful M A v s
+fed_faithful M A (reading r) a s = s
 
 faithful_after : {M : Meaning} {A : Account} → After M A → Faithful M A
 faithful_after {M} begun = empty_faithful M
@@ -46,6 +48,7 @@ fed_bounded M A (decide v place value) s b = b
 fed_bounded M A (waive v) s b = b
 fed_bounded M A step s b = step_bounded M A s b
 fed_bounded M A (retire v) s b = b
+fed_bounded M A (reading r) s b = b
 
 bounded_after : {M : Meaning} {A : Account} → Law M → After M A → Bounded A
 bounded_after law begun = omega arith

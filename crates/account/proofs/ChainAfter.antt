@@ -2,7 +2,7 @@
 use Rattle.std.proofs.Common.{◌≡◌, ℕ, true, false, sym, refl, ap, ◌∙◌, ⊎_elim}
 use Rattle.std.proofs.lemmas.Bool.{cases_Bool}
 use Rattle.model.specs.Meaning.{Meaning, Law}
-use Rattle.account.specs.Account.{Account, Call, load, branch, decide, waive, step, retire, fed, Accepted, After, begun, one_more}
+use Rattle.account.specs.Account.{Account, Call, load, branch, decide, waive, step, retire, reading, fed, Accepted, After, begun, one_more}
 use Rattle.account.specs.Sound.{Sound, Faithful}
 use Rattle.account.specs.Chain.{pair}
 use Rattle.account.specs.Claims.{ChainStands, UntouchedSame}
@@ -18,6 +18,7 @@ fed_clock M law A (decide v place value) a s k = decide_clock A v place value k
 fed_clock M law A (waive v) a s k = k
 fed_clock M law A step a s k = step_clock M law A s k
 fed_clock M law A (retire v) a s k = retire_clock A v k
+fed_clock M law A (reading r) a s k = k
 
 pub clock_after : {M : Meaning} {A : Account} → Law M → After M A → Clock A
 clock_after {M} law begun = empty_clock M
@@ -30,6 +31,7 @@ fed_chained M law A (decide v place value) a s f k c = decide_chained M A v plac
 fed_chained M law A (waive v) a s f k c = waive_chained M A v c
 fed_chained M law A step a s f k c = step_chained M law A s f k c
 fed_chained M law A (retire v) a s f k c = retire_chained M A v c
+fed_chained M law A (reading r) a s f k c = c
 
 pub chained_after : {M : Meaning} {A : Account} → Law M → After M A → Chained M A
 chained_after {M} law begun = empty_chained M

@@ -13,4 +13,5 @@ pub mod Finding
 pub mod Histories
 pub mod Leaders
 pub mod Past
+pub mod Refusing
 pub mod Step

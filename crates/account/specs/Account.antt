@@ -212,14 +212,29 @@ fed_step_at M A (Some k) = record {
 abbrev pub fed_step : Meaning → Account → Account
 fed_step M A = fed_step_at M A (least A 16)
 
--- the calls that change a study; a permit goes by the number of its variant
+-- the readings, which change nothing; of variants, places and entries
+pub data Reading : Type 0 where
+  events_of : ℕ → Reading
+  entry_of : ℕ → ℕ → Reading
+  place_of : ℕ → ℕ → Reading
+  next_of : ℕ → Reading
+  -- whether two variants share a place
+  sharing : ℕ → ℕ → ℕ → Reading
+  -- how many variants stand in a variant's group of a place
+  group_of : ℕ → ℕ → Reading
+  totals : Reading
+
+-- the calls of a study; a permit goes by the number of its variant
 pub data Call : Type 0 where
+  -- the starting list and the end of day
   load : List Start → ℕ → Call
   branch : ℕ → Call
+  -- the permit's variant, a place and the order's value
   decide : ℕ → ℕ → ℕ → Call
   waive : ℕ → Call
   step : Call
   retire : ℕ → Call
+  reading : Reading → Call
 
 -- the account after an accepted call
 abbrev pub fed : Meaning → Account → Call → Account
@@ -229,6 +244,11 @@ fed M A (decide v place value) = fed_decide A v place value
 fed M A (waive v) = fed_waive A v
 fed M A step = fed_step M A
 fed M A (retire v) = fed_retire A v
+fed M A (reading r) = A
+
+-- and after a call that was denied or not; a denied one leaves all as it was
+abbrev pub told : Meaning → Account → Call → Bool → Account
+told M A c denied = if denied then A else fed M A c
 
 -- what an accepted call has been seen to meet (the rest of the refusals are of no concern here)
 abbrev pub Accepted : Meaning → Account → Call → Type 0
@@ -238,6 +258,7 @@ Accepted M A (decide v place value) = (A.live v ≡ true) × (A.undecided v ≡ 
 Accepted M A (waive v) = A.undecided v ≡ true
 Accepted M A step = A.loaded ≡ true
 Accepted M A (retire v) = (A.live v ≡ true) × (A.undecided v ≡ false)
+Accepted M A (reading r) = A.loaded ≡ true
 
 -- an account that some calls lead to, with those that were accepted
 pub data After (M : Meaning) : Account → Type 0 where

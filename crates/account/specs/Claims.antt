@@ -1,11 +1,12 @@
 -- What is shown of every account.
-use Rattle.std.specs.Prelude.{◌≡◌, ℕ, ◌*◌, ◌≤◌, Bool, true, not, List, length, Some}
+use Rattle.std.specs.Prelude.{◌≡◌, ℕ, ◌+◌, ◌*◌, ◌≤◌, Bool, true, not, List, length, Some, MatchOption}
 use Rattle.event.specs.declared.Key.{Key}
 use Rattle.model.specs.Meaning.{Meaning, Law}
 use Rattle.account.specs.Orders.{alone_under}
 use Rattle.account.specs.Account.{Account, Call, After, ind, sum_below, least, runs, reached_by}
 use Rattle.account.specs.Groups.{Groups, copies, worked}
-use Rattle.account.specs.Refusals.{history}
+use Rattle.account.specs.Answers.{answer, after, history, executions_of}
+use Rattle.account.specs.Refusals.{cases, refusal, NoneMet, Smallest}
 use Rattle.account.specs.Sound.{Sound, Faithful, Bounded}
 use Rattle.account.specs.Chain.{ChainReaches, Moment, Touched, sides}
 
@@ -47,3 +48,11 @@ ExecutionsWithin = (M : Meaning) (A : Account) (k : Key) → Law M → After M A
 -- there is at least one copy of each place, and at most one for each live variant
 abbrev pub CopiesWithin : Type 0
 CopiesWithin = (M : Meaning) (A : Account) → Law M → After M A → (v : ℕ) → A.live v ≡ true → (M.places ≤ copies M A) × (copies M A ≤ M.places * sum_below (λ w. ind (A.live w)) 16)
+
+-- a call is denied exactly if one of its cases is met, and with the first of them: the earliest position in a starting list, and there the smallest number
+abbrev pub SmallestGiven : Type 0
+SmallestGiven = (M : Meaning) (capacity : ℕ) (A : Account) (c : Call) → MatchOption (refusal M capacity A c) (NoneMet (cases M capacity A c)) (λ r. Smallest r (cases M capacity A c))
+
+-- the total of executions grows by what a step tells, and by no other call
+abbrev pub ExecutionsAdd : Type 0
+ExecutionsAdd = (M : Meaning) (capacity : ℕ) (A : Account) (c : Call) → Law M → After M A → (after M capacity A c).executions ≡ A.executions + executions_of (answer M capacity A c)

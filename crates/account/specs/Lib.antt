@@ -1,4 +1,5 @@
 pub mod Account
+pub mod Answers
 pub mod Chain
 pub mod Claims
 pub mod Finds

@@ -2,7 +2,7 @@
 // It knows no copies, no sets and no calendar. Each function here names a theorem over every model that keeps the law and over every history of calls.
 #![tactic(auto)]
 
-ghost use Rattle.account.specs.Claims.{AloneStands, BoundedStands, ChainStands, CopiesWithin, ExecutionsGroups, ExecutionsWithin, HistoryAfter, SoundStands, UntouchedSame};
+ghost use Rattle.account.specs.Claims.{AloneStands, BoundedStands, ChainStands, CopiesWithin, ExecutionsAdd, ExecutionsGroups, ExecutionsWithin, HistoryAfter, SmallestGiven, SoundStands, UntouchedSame};
 ghost use Rattle.account.specs.Groups.{LeadersCount};
 
 // Reached and marked are symmetric, not reached is an equivalence at each place, and what is not reached is the same in both days.
@@ -53,4 +53,14 @@ pub fn executions_within()
 // There is at least one copy of each place, and at most one for each live variant.
 pub fn copies_within()
     ensures { CopiesWithin }
+{}
+
+// A call is denied exactly if one of its cases is met, and with the first of those that are met.
+pub fn smallest_refusal()
+    ensures { SmallestGiven }
+{}
+
+// The total of executions is the sum of what the steps told.
+pub fn executions_add()
+    ensures { ExecutionsAdd }
 {}
