@@ -6,11 +6,13 @@ use Rattle.event.specs.declared.Message.{Message}
 use Rattle.event.specs.Keys.{key_of, before}
 use Rattle.event.specs.Lists.{first}
 use Rattle.account.specs.Account.{Account, ind, any_below, sum_below, earlier, least, runs, reached_by}
-use Rattle.account.specs.Claims.{ExecutionsWithin, CopiesWithin}
+use Rattle.account.specs.Claims.{ExecutionsWithin, CopiesWithin, CopiesGroups, TakenGroups, SelfShares}
 use Rattle.account.specs.Groups.{leads}
 use Rattle.account.proofs.After.{sound_after}
 use Rattle.account.proofs.Counts.{sum_le, ind_and, executions_few}
 use Rattle.account.proofs.Executions.{executions_lead}
+use Rattle.account.proofs.Leaders.{leaders_count, sum_same}
+use Rattle.account.specs.Answers.{shared}
 use Rattle.std.proofs.lemmas.Option.{none-some}
 use Rattle.account.proofs.Step.{some_is, runs_from}
 
@@ -91,3 +93,23 @@ copies_within_lem M A law h v l =
       sum_least (λ p. sum_below (λ x. ind (leads A.live (λ x y. not (A.reached x y p)) x)) 16) M.places (λ p. some_leads A.live (λ x y. not (A.reached x y p)) 16 some),
       sum_most (λ p. sum_below (λ x. ind (leads A.live (λ x y. not (A.reached x y p)) x)) 16) (sum_below (λ x. ind (A.live x)) 16) M.places (λ p. few_lead A.live (λ x y. not (A.reached x y p)) 16),
     )
+
+pub copies_groups : CopiesGroups
+copies_groups M A gs h = sum_same _ _ M.places (λ p. sym (leaders_count 16 A.live (λ v w. not (A.reached v w p)) (gs p) (h p)))
+
+pub taken_groups : TakenGroups
+taken_groups A k gs h = sym (leaders_count 16 (runs A k) (λ v w. not (A.marked v w k)) gs h)
+
+-- where v is among those below n, there is one at least
+some_there : (f : ℕ → Bool) (v n : ℕ) → v < n → f v ≡ true → 1 ≤ sum_below (λ w. ind (f w)) n
+unfolding sum_below
+some_there f v zero h e = absurd (omega arith)
+some_there f v (suc n) h e = ⊎_elim (λ (q : v ≡ n). let i : ind (f n) ≡ 1 = ap ind (subst (λ (w : ℕ). f w ≡ true) q e) in omega arith) (λ (q : v ≡ n → ⊥). let r = some_there f v n (omega (arith, q)) e in omega arith) (cases_eq v n)
+
+pub self_shares : SelfShares
+self_shares M A law h v p l =
+    let s = sound_after law h in
+    let g = s.given v l in
+    let few = s.few in
+    let own = ap not (s.reached_self v p) in
+    (ap shared own, some_there (λ w. A.live w && not (A.reached v w p)) v 16 (omega arith) (and_from _ _ l own))

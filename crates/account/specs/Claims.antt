@@ -3,9 +3,9 @@ use Rattle.std.specs.Prelude.{◌≡◌, ℕ, ◌+◌, ◌*◌, ◌≤◌, Bool,
 use Rattle.event.specs.declared.Key.{Key}
 use Rattle.model.specs.Meaning.{Meaning, Law}
 use Rattle.account.specs.Orders.{alone_under}
-use Rattle.account.specs.Account.{Account, Call, After, ind, sum_below, least, runs, reached_by}
-use Rattle.account.specs.Groups.{Groups, copies, worked}
-use Rattle.account.specs.Answers.{answer, after, history, executions_of}
+use Rattle.account.specs.Account.{Account, Call, sharing, After, ind, sum_below, least, runs, reached_by}
+use Rattle.account.specs.Groups.{Groups, copies, taken, worked}
+use Rattle.account.specs.Answers.{shared, group_size, reads, answer, after, history, executions_of}
 use Rattle.account.specs.Refusals.{cases, refusal, NoneMet, Smallest}
 use Rattle.account.specs.Sound.{Sound, Faithful, Bounded}
 use Rattle.account.specs.Chain.{ChainReaches, Moment, Touched, sides}
@@ -40,6 +40,18 @@ HistoryAfter = (M : Meaning) (capacity : ℕ) → Law M → (calls : List Call) 
 abbrev pub ExecutionsGroups : Type 0
 ExecutionsGroups = (M : Meaning) (A : Account) (k : Key) (gs : List (ℕ → Bool)) → Law M → After M A → least A 16 ≡ Some k
     → Groups 16 (runs A k) (λ v w. not (reached_by A k v w k.receiver)) gs → worked A k ≡ length gs
+
+-- copies in use are the groups of all places
+abbrev pub CopiesGroups : Type 0
+CopiesGroups = (M : Meaning) (A : Account) (gs : ℕ → List (ℕ → Bool)) → ((p : ℕ) → Groups 16 A.live (λ v w. not (A.reached v w p)) (gs p)) → copies M A ≡ sum_below (λ p. length (gs p)) M.places
+
+-- a step takes one message for each group of those that ran it unmarked
+abbrev pub TakenGroups : Type 0
+TakenGroups = (A : Account) (k : Key) (gs : List (ℕ → Bool)) → Groups 16 (runs A k) (λ v w. not (A.marked v w k)) gs → taken A k ≡ length gs
+
+-- a variant shares each place with itself, and stands in a group of one or more
+abbrev pub SelfShares : Type 0
+SelfShares = (M : Meaning) (A : Account) → Law M → After M A → (v p : ℕ) → A.live v ≡ true → (reads M A (sharing v v p) ≡ shared true) × (1 ≤ group_size A v p)
 
 -- a step runs at least one execution where something waits, and at most one for each variant that ran
 abbrev pub ExecutionsWithin : Type 0

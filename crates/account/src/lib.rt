@@ -2,7 +2,7 @@
 // It knows no copies, no sets and no calendar. Each function here names a theorem over every model that keeps the law and over every history of calls.
 #![tactic(auto)]
 
-ghost use Rattle.account.specs.Claims.{AloneStands, BoundedStands, ChainStands, CopiesWithin, ExecutionsAdd, ExecutionsGroups, ExecutionsWithin, HistoryAfter, SmallestGiven, SoundStands, UntouchedSame};
+ghost use Rattle.account.specs.Claims.{AloneStands, BoundedStands, ChainStands, CopiesGroups, CopiesWithin, ExecutionsAdd, ExecutionsGroups, ExecutionsWithin, HistoryAfter, SelfShares, SmallestGiven, SoundStands, TakenGroups, UntouchedSame};
 ghost use Rattle.account.specs.Groups.{LeadersCount};
 
 // Reached and marked are symmetric, not reached is an equivalence at each place, and what is not reached is the same in both days.
@@ -43,6 +43,21 @@ pub fn leaders_count_groups()
 // A step's executions are the groups of its receiver, after the step, with a variant that ran.
 pub fn executions_are_groups()
     ensures { ExecutionsGroups }
+{}
+
+// Copies in use are the groups of all places.
+pub fn copies_are_groups()
+    ensures { CopiesGroups }
+{}
+
+// A step takes one message for each group of those that ran it unmarked.
+pub fn taken_are_groups()
+    ensures { TakenGroups }
+{}
+
+// A variant shares each place with itself.
+pub fn shares_itself()
+    ensures { SelfShares }
 {}
 
 // A step works at least one execution where something waits, and at most one for each variant that ran.
