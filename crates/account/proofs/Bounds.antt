@@ -49,7 +49,7 @@ module _ (among : ℕ → Bool) (alike : ℕ → ℕ → Bool) where
   few_lead n = sum_le (λ v. ind (leads among alike v)) (λ v. ind (among v)) n (λ v _. ind_and (among v) (not (any_below (λ w. among w && alike v w) v)))
 
 -- the smallest key is run by someone
-least_runs : (A : Account) (n : ℕ) (k : Key) → least A n ≡ Some k → any_below (runs A k) n ≡ true
+pub least_runs : (A : Account) (n : ℕ) (k : Key) → least A n ≡ Some k → any_below (runs A k) n ≡ true
 unfolding least any_below
 least_runs A zero k e = absurd (none-some k e)
 least_runs A (suc n) k e = go (cases_Bool (A.live n)) (first (A.day n).waiting) refl (least A n) refl (least_runs A n k)

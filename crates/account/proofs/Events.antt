@@ -29,13 +29,13 @@ stamped_from t s n l =
     subst (λ (k : ℕ). AllByRecursion (Between s n (n + k)) (stamped t s n l)) (length_stamped t s n l) (sequence_between s n (stamped t s n l) (stamped_sequence t s n l))
 
 -- all of s in xs are numbered below n
-abbrev Under : ℕ → ℕ → List Message → Type 0
+abbrev pub Under : ℕ → ℕ → List Message → Type 0
 Under s n xs = AllByRecursion (λ m. m.sender ≡ s → m.number < n) xs
 
 under_more : (s n : ℕ) (xs : List Message) → Under s n xs → Under s (suc n) xs
 under_more s n xs h = All-weaker (λ m. m.sender ≡ s → m.number < n) (λ m. m.sender ≡ s → m.number < suc n) (λ m u f. let a = u f in omega arith) xs h
 
-fresh : (s n : ℕ) (x : Message) (xs : List Message) → x.sender ≡ s → n ≤ x.number → Under s n xs → find (key_of x) xs ≡ None
+pub fresh : (s n : ℕ) (x : Message) (xs : List Message) → x.sender ≡ s → n ≤ x.number → Under s n xs → find (key_of x) xs ≡ None
 fresh s n x xs e l h =
     find_none (key_of x) xs
     (All-weaker (λ m. m.sender ≡ s → m.number < n) (λ m. key_of m ≡ key_of x → ⊥)
@@ -77,10 +77,10 @@ find_inserted k end t s n (x ∷ l) xs h = go (cases_Bool (leb (stamp t s n x).t
     go (inr b) ih = simp b (ih xs (under_more s n xs h))
 
 module _ (M : Meaning) (end : ℕ) (d : Day) (t : Tidy M d) (m : Message) (e : first d.waiting ≡ Some m) where
-  inside : m.receiver < M.places
+  pub inside : m.receiver < M.places
   inside = all_first (λ x. x.receiver < M.places) d.waiting m t.received e
 
-  under : Under m.receiver (d.place m.receiver).sent (rest d.waiting)
+  pub under : Under m.receiver (d.place m.receiver).sent (rest d.waiting)
   under =
       all_rest (λ x. x.sender ≡ m.receiver → x.number < (d.place m.receiver).sent) d.waiting
       (All-weaker (λ x. x.sender < M.places → x.number < (d.place x.sender).sent) (λ x. x.sender ≡ m.receiver → x.number < (d.place m.receiver).sent)

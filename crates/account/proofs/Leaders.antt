@@ -12,7 +12,7 @@ unfolding sum_below
 sum_same f g zero h = refl
 sum_same f g (suc n) h = let a = sum_same f g n h in let b = h n in omega arith
 
-sum_none : (n : ℕ) → sum_below (λ v. 0) n ≡ 0
+pub sum_none : (n : ℕ) → sum_below (λ v. 0) n ≡ 0
 unfolding sum_below
 sum_none zero = refl
 sum_none (suc n) = let a = sum_none n in omega arith
@@ -22,17 +22,17 @@ unfolding any_below
 any_same f g zero h = refl
 any_same f g (suc n) h = ap (λ b. b || any_below f n) (h n) ∙ ap (λ b. g n || b) (any_same f g n h)
 
-abbrev least_in : ℕ → (ℕ → Bool) → Bool
+abbrev pub least_in : ℕ → (ℕ → Bool) → Bool
 least_in v g = g v && not (any_below g v)
 
 -- one set has one least, if it has any
-sum_first : (q : ℕ → Bool) (n : ℕ) → sum_below (λ v. ind (least_in v q)) n ≡ ind (any_below q n)
+pub sum_first : (q : ℕ → Bool) (n : ℕ) → sum_below (λ v. ind (least_in v q)) n ≡ ind (any_below q n)
 unfolding sum_below any_below
 sum_first q zero = refl
 sum_first q (suc n) = let a = sum_first q n in ⊎_elim (λ (e : q n ≡ true). ⊎_elim (λ (d : any_below q n ≡ true). grind (arith, nat_tests)) (λ (d : any_below q n ≡ false). grind (arith, nat_tests)) (cases_Bool (any_below q n))) (λ (e : q n ≡ false). grind (arith, nat_tests)) (cases_Bool (q n))
 
 -- sets that are not empty are as many as their least ones
-sets_least : (n : ℕ) (gs : List (ℕ → Bool)) → AllByRecursion (λ g. any_below g n ≡ true) gs → length gs ≡ sum_below (λ v. count (least_in v) gs) n
+pub sets_least : (n : ℕ) (gs : List (ℕ → Bool)) → AllByRecursion (λ g. any_below g n ≡ true) gs → length gs ≡ sum_below (λ v. count (least_in v) gs) n
 sets_least n [] h = sym (sum_none n)
 sets_least n (g ∷ gs) h =
     let a = sum_first g n ∙ ap ind h.0 in let b = sets_least n gs h.1 in

@@ -63,7 +63,7 @@ earlier_none (Some m) (Some j) e = absurd (cond_both (before j (key_of m)) (Some
 split : (v n : ℕ) → v < suc n → (v ≡ n) ⊎ (v < n)
 split v n h = ⊎_elim (λ e. inl e) (λ ne. inr (omega (arith, ne))) (cases_eq v n)
 
-least_none : (A : Account) (n : ℕ) → least A n ≡ None → (v : ℕ) → v < n → A.live v ≡ true → first (A.day v).waiting ≡ None
+pub least_none : (A : Account) (n : ℕ) → least A n ≡ None → (v : ℕ) → v < n → A.live v ≡ true → first (A.day v).waiting ≡ None
 unfolding least
 least_none A zero e v h l = absurd (let z : ⊥ = omega arith in z)
 least_none A (suc n) e v h l = go (cases_Bool (A.live n)) (split v n h) (least_none A n)

@@ -22,7 +22,7 @@ map_sorted f e (x ∷ xs) s = (go xs s.0, map_sorted f e xs s.1)
     go (y ∷ ys) a = (ap (λ k. before (key_of_held (f y)) k) (e x) ∙ ap (λ k. before k (key_of_held x)) (e y) ∙ a.0, go ys a.1)
 
 -- a filter keeps the order
-kept_sorted : (p : Held → Bool) (xs : List Held) → Sorted key_of_held xs → Sorted key_of_held (filter p xs)
+pub kept_sorted : (p : Held → Bool) (xs : List Held) → Sorted key_of_held xs → Sorted key_of_held (filter p xs)
 kept_sorted p [] s = tt
 kept_sorted p (x ∷ xs) s =
     cond_both (p x) (x ∷ filter p xs) (filter p xs) (Sorted key_of_held)

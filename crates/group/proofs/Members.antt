@@ -1,12 +1,12 @@
 -- The members of a group after each operation.
-use Rattle.std.proofs.Common.{◌≡◌, ℕ, ◌-◌, ◌^◌, ◌<◌, Bool, true, false, not, ◌&&◌, ◌||◌, eqb, ltb, ◌⊎◌, sym, refl, ap, ◌∙◌, inl, inr, ⊎_elim, arith}
+use Rattle.std.proofs.Common.{◌≡◌, ℕ, zero, suc, ◌-◌, ◌^◌, ◌<◌, Bool, true, false, not, ◌&&◌, ◌||◌, eqb, ltb, ◌⊎◌, sym, refl, ap, ◌∙◌, inl, inr, ⊎_elim, arith}
 use lib.Bits.{bit_or, bit_and}
 use lib.Count.{count_trailing_zeros, ones}
-use Rattle.std.proofs.lemmas.Nat.{pow_below}
-use Rattle.std.proofs.lemmas.Bool.{cases_Bool, ltb-true, lt-ltb, eqb-true, and_from, and_left, and_right, both_ways, cond-false}
+use Rattle.std.proofs.lemmas.Nat.{and_le_r, pow_below}
+use Rattle.std.proofs.lemmas.Bool.{cases_Bool, cond_both, ltb-true, lt-ltb, eqb-true, and_from, and_left, and_right, both_ways, cond-false}
 use Rattle.std.proofs.lemmas.Bool.Decides.{nat_tests}
 use Rattle.group.specs.declared.Group.{Group}
-use Rattle.group.specs.Groups.{has, none, with, without, joined, shared, apart, is_empty, count}
+use Rattle.group.specs.Groups.{gathered, has, none, with, without, joined, shared, apart, is_empty, count}
 use Rattle.group.proofs.Bits.{lit, lit_or, lit_and, lit_pow, lit_rest, bit_none, zeros_below, one_there, count_same, ones_count}
 
 pub has_above : (g : Group) (w : ℕ) → ltb w 16 ≡ false → has g w ≡ false
@@ -115,3 +115,29 @@ unfolding has
 ones_members g h =
     ones_count 16 g.mask h
     ∙ count_same (lit g.mask) (λ v. ltb v 16 && lit g.mask v) 16 (λ v l. sym (ap (λ b. b && lit g.mask v) (lt-ltb v 16 l)))
+
+-- a group gathered by a test has those that pass
+pub has_gathered : (f : ℕ → Bool) (n w : ℕ) → has (gathered f n) w ≡ (ltb w 16 && (ltb w n && f w))
+unfolding gathered
+has_gathered f zero w = has_none w ∙ none_below w (f w)
+  where
+    none_below : (w : ℕ) (b : Bool) → false ≡ (ltb w 16 && (ltb w 0 && b))
+    none_below w b = grind (arith, nat_tests)
+has_gathered f (suc n) w =
+    cond_both (f n) (with (gathered f n) n) (gathered f n) (λ g. has g w ≡ (ltb w 16 && (ltb w (suc n) && f w)))
+    (λ t. has_with (gathered f n) n w ∙ ap (λ b. (ltb n 16 && eqb w n) || b) (has_gathered f n w) ∙ one_more w n (f w) (λ e. ap f e ∙ t))
+    (λ t. has_gathered f n w ∙ no_more w n (f w) (λ e. ap f e ∙ t))
+  where
+    one_more : (w n : ℕ) (b : Bool) → (w ≡ n → b ≡ true) → ((ltb n 16 && eqb w n) || (ltb w 16 && (ltb w n && b))) ≡ (ltb w 16 && (ltb w (suc n) && b))
+    one_more w n b h = grind (arith, nat_tests)
+
+    no_more : (w n : ℕ) (b : Bool) → (w ≡ n → b ≡ false) → (ltb w 16 && (ltb w n && b)) ≡ (ltb w 16 && (ltb w (suc n) && b))
+    no_more w n b h = grind (arith, nat_tests)
+
+without_small : (g : Group) (v : ℕ) → v < 16 → (without g v).mask < 65536
+unfolding without
+without_small g v l = let b = lt-ltb v 16 l in let a = and_le_r g.mask (65535 - 2 ^ v) in simp b (omega arith)
+
+-- a group that a variant has left is empty, or has another
+pub not_empty_some : (g : Group) (v : ℕ) → v < 16 → is_empty (without g v) ≡ false → (w : ℕ) × (has (without g v) w ≡ true)
+not_empty_some g v l e = not_empty_least (without g v) (without_small g v l) e

@@ -36,6 +36,11 @@ shared g h = record { mask = bit_and g.mask h.mask }
 abbrev pub apart : Group → Group → Group
 apart g h = record { mask = bit_and g.mask (65535 - h.mask) }
 
+-- the variants below n that pass
+unfoldable pub gathered : (ℕ → Bool) → ℕ → Group
+gathered f zero = none
+gathered f (suc n) = if f n then with (gathered f n) n else gathered f n
+
 unfoldable pub is_empty : Group → Bool
 is_empty g = g.mask == 0
 
