@@ -1,4 +1,3 @@
-pub mod Cuts
 pub mod Words
-pub mod Soundness
 pub mod ReadBack
+pub mod Soundness

@@ -5,7 +5,7 @@ use Rattle.std.proofs.ByRecursion.{All-push}
 use Rattle.std.proofs.lemmas.Bool.{cond_both, and_parts, leb-true}
 use Rattle.dayfile.specs.declared.flaw.Flaw.{Flaw}
 use Rattle.dayfile.specs.declared.flaw.FlawKind.{FlawKind}
-use Rattle.dayfile.specs.declared.flaw.FlawKind.TheVariants.{NotANumber, OutOfRange, FarmsMissing, TankersMissing, EndMissing}
+use Rattle.dayfile.specs.declared.flaw.FlawKind.TheVariants.{Word, FarmsMissing, TankersMissing, EndMissing}
 use Rattle.dayfile.specs.declared.line.Settings.{Settings}
 use Rattle.dayfile.specs.declared.line.Entry.{Entry}
 use Rattle.dayfile.specs.declared.line.Entry.TheVariants.{Set, Milked}
@@ -13,9 +13,13 @@ use Rattle.dayfile.specs.declared.plan.Milking.{Milking}
 use Rattle.dayfile.specs.declared.plan.Plan.{Plan}
 use Rattle.dayfile.specs.declared.word.Keyword.{Keyword}
 use Rattle.dayfile.specs.declared.word.Keyword.TheVariants as key
-use Rattle.dayfile.specs.Text.{lines_of, said, words_of}
-use Rattle.dayfile.specs.Words.{keyword_of, is_number, value_of, number_of}
-use Rattle.dayfile.specs.Lines.{and_then, next, only_number_of, once, moment_of, milking_of, milked_by, entry_for, entry_of}
+use Rattle.text.specs.declared.flaw.WordFlaw.{WordFlaw}
+use Rattle.text.specs.declared.flaw.WordFlaw.TheVariants.{NotANumber, OutOfRange, TooFewWords}
+use Rattle.text.specs.Text.{lines_of, said, words_of}
+use Rattle.text.specs.Numbers.{is_number, value_of, number_of}
+use Rattle.text.specs.Reading.{and_then, next}
+use Rattle.dayfile.specs.Words.{keyword_of}
+use Rattle.dayfile.specs.Lines.{worded, only_number_of, once, moment_of, milking_of, milked_by, entry_for, entry_of}
 use Rattle.dayfile.specs.Plans.{Told, Sheet, nothing_told, noted, at_line, step, needed, finished, read_on, read_text}
 use Rattle.dayfile.specs.Held.{sheet_of, answer, OutOfMemory}
 use Rattle.dayfile.specs.Laws.{Farmed, Sound}
@@ -25,10 +29,10 @@ made_then : {X Y E : Type 0} (P : X → Type 0) (Q : Y → Type 0) (r : Result X
 made_then P Q (Ok x) more p f = f x p
 made_then P Q (Err e) more p f = tt
 
-made_next : {X Y : Type 0} (P : X → Type 0) (Q : Y → Type 0) (read : List ℕ → Result X FlawKind) (ws : List (List ℕ)) (more : X → List (List ℕ) → Result Y FlawKind)
-    → ((w : List ℕ) → IfOk (read w) P) → ((x : X) (ws : List (List ℕ)) → P x → IfOk (more x ws) Q) → IfOk (next read ws more) Q
-made_next P Q read [] more p f = tt
-made_next P Q read (w ∷ ws) more p f = made_then P Q (read w) (λ x. more x ws) (p w) (λ x h. f x ws h)
+made_next : {X Y : Type 0} (P : X → Type 0) (Q : Y → Type 0) (none : FlawKind) (read : List ℕ → Result X FlawKind) (ws : List (List ℕ)) (more : X → List (List ℕ) → Result Y FlawKind)
+    → ((w : List ℕ) → IfOk (read w) P) → ((x : X) (ws : List (List ℕ)) → P x → IfOk (more x ws) Q) → IfOk (next none read ws more) Q
+made_next P Q none read [] more p f = tt
+made_next P Q none read (w ∷ ws) more p f = made_then P Q (read w) (λ x. more x ws) (p w) (λ x h. f x ws h)
 
 made_any : {X E : Type 0} (r : Result X E) → IfOk r (λ _. Unit {0})
 made_any (Ok x) = tt
@@ -39,9 +43,9 @@ made_once None (Ok x) = refl
 made_once None (Err k) = tt
 made_once (Some n) r = tt
 
-made_number : (low high : ℕ) (w : List ℕ) → IfOk (number_of low high w) (λ n. (low ≤ n) × (n ≤ high))
+made_number : (low high : ℕ) (w : List ℕ) → IfOk (worded (number_of low high w)) (λ n. (low ≤ n) × (n ≤ high))
 made_number low high w =
-    let Within : Result ℕ FlawKind → Type 0 = λ r. IfOk r (λ n. (low ≤ n) × (n ≤ high)) in
+    let Within : Result ℕ WordFlaw → Type 0 = λ r. IfOk (worded r) (λ n. (low ≤ n) × (n ≤ high)) in
     cond_both (is_number w) (cond (leb low (value_of w) && leb (value_of w) high) (Ok (value_of w)) (Err OutOfRange)) (Err NotANumber) Within
     (λ _. cond_both (leb low (value_of w) && leb (value_of w) high) (Ok (value_of w)) (Err OutOfRange) Within
     (λ e. let b = and_parts _ _ e in (leb-true _ _ b.0, leb-true _ _ b.1)) (λ _. tt))
@@ -49,8 +53,8 @@ made_number low high w =
 
 made_milking : (farms : ℕ) (ws : List (List ℕ)) → IfOk (milking_of farms ws) (Farmed farms)
 made_milking farms ws =
-    made_next (λ n. (1 ≤ n) × (n ≤ farms)) (Farmed farms) (number_of 1 farms) ws _ (λ w. made_number 1 farms w)
-    (λ farm ws h. made_next (λ _. Unit {0}) (Farmed farms) (number_of 0 4294967295) ws _ (λ w. made_any _)
+    made_next (λ n. (1 ≤ n) × (n ≤ farms)) (Farmed farms) (Word TooFewWords) (λ w. worded (number_of 1 farms w)) ws _ (λ w. made_number 1 farms w)
+    (λ farm ws h. made_next (λ _. Unit {0}) (Farmed farms) (Word TooFewWords) (λ w. worded (number_of 0 4294967295 w)) ws _ (λ w. made_any _)
     (λ litres ws _. made_then (λ _. Unit {0}) (Farmed farms) (moment_of ws) _ (made_any _) (λ time _. record { least = h.0; most = h.1; kind = refl })))
 
 -- farms are given once, and milk comes to one of them

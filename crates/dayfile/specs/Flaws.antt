@@ -1,16 +1,14 @@
 -- How a flaw is told to people.
 use Rattle.std.specs.Prelude.{ℕ, List, ◌++◌, codes, decimal}
+use Rattle.text.specs.Flaws as text
 use Rattle.dayfile.specs.declared.flaw.Flaw.{Flaw}
 use Rattle.dayfile.specs.declared.flaw.FlawKind.{FlawKind}
-use Rattle.dayfile.specs.declared.flaw.FlawKind.TheVariants.{UnknownWord, TooFewWords, TooManyWords, NotANumber, OutOfRange, AtMissing, GivenTwice, MilkedBeforeFarms, FarmsMissing, TankersMissing, EndMissing, NoMemory}
+use Rattle.dayfile.specs.declared.flaw.FlawKind.TheVariants.{UnknownWord, Word, AtMissing, GivenTwice, MilkedBeforeFarms, FarmsMissing, TankersMissing, EndMissing, NoMemory}
 
 -- each kind in plain words
 abbrev pub wording : FlawKind → List ℕ
 wording UnknownWord = codes "the first word is none of farms, tankers, end and milked"
-wording TooFewWords = codes "a word is missing at the end"
-wording TooManyWords = codes "there is a word too many"
-wording NotANumber = codes "a number is wanted, of decimal digits only"
-wording OutOfRange = codes "a number is too small or too large"
+wording (Word flaw) = text.wording flaw
 wording AtMissing = codes "\"at\" is missing between litres and time"
 wording GivenTwice = codes "this was given on an earlier line"
 wording MilkedBeforeFarms = codes "farms has to be given before the first milked"

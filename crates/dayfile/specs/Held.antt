@@ -1,16 +1,9 @@
 -- What the code holds and answers, in the words of the definitions.
-use Rattle.std.specs.Prelude.{◌≡◌, ℕ, List, Ok, Err, vec_items, Result}
+use Rattle.std.specs.Prelude.{◌≡◌, Ok, Err, vec_items, Result}
 use Rattle.dayfile.specs.declared.flaw.Flaw.{Flaw}
-use Rattle.dayfile.specs.declared.flaw.FlawKind.{FlawKind}
 use Rattle.dayfile.specs.declared.flaw.FlawKind.TheVariants.{NoMemory}
 use Rattle.dayfile.specs.declared.plan.Plan.{Plan}
-use Rattle.dayfile.specs.declared.text.Words.{Words}
 use Rattle.dayfile.specs.Plans.{Sheet}
-
--- a number, and the words that are left after it
-abbrev pub behind : Result ℕ FlawKind → Words → Result (ℕ × List (List ℕ)) FlawKind
-behind (Ok n) w = Ok (n, w)
-behind (Err k) w = Err k
 
 abbrev pub sheet_of : Plan → Sheet
 sheet_of p = record { farms = p.farms; tankers = p.tankers; end = p.end; milkings = vec_items p.milkings }

@@ -2,33 +2,27 @@
 use Rattle.std.specs.Prelude.{ℕ, if◌then◌else◌, List, [], ◌∷◌, Some, None, Ok, Err, codes, Option, Result}
 use Rattle.std.specs.Str.{bytes_eq}
 use Rattle.event.specs.declared.Start.{Start}
+use Rattle.text.specs.declared.flaw.WordFlaw.{WordFlaw}
+use Rattle.text.specs.declared.flaw.WordFlaw.TheVariants.{TooFewWords, TooManyWords}
+use Rattle.text.specs.Numbers.{number_of}
+use Rattle.text.specs.Reading.{and_then, next, ended}
 use Rattle.dayfile.specs.declared.flaw.FlawKind.{FlawKind}
-use Rattle.dayfile.specs.declared.flaw.FlawKind.TheVariants.{TooFewWords, TooManyWords, AtMissing, GivenTwice, MilkedBeforeFarms}
+use Rattle.dayfile.specs.declared.flaw.FlawKind.TheVariants.{Word, AtMissing, GivenTwice, MilkedBeforeFarms}
 use Rattle.dayfile.specs.declared.line.Settings.{Settings}
 use Rattle.dayfile.specs.declared.line.Entry.{Entry}
 use Rattle.dayfile.specs.declared.line.Entry.TheVariants as entry
 use Rattle.dayfile.specs.declared.word.Keyword.{Keyword}
 use Rattle.dayfile.specs.declared.word.Keyword.TheVariants as key
-use Rattle.dayfile.specs.Words.{keyword_of, number_of}
+use Rattle.dayfile.specs.Words.{keyword_of}
 
--- what is read goes on, and a flaw stays a flaw
-abbrev pub and_then : {X Y E : Type 0} → Result X E → (X → Result Y E) → Result Y E
-and_then (Ok x) more = more x
-and_then (Err e) more = Err e
+-- a flaw of a word is one of the file
+abbrev pub worded : {X : Type 0} → Result X WordFlaw → Result X FlawKind
+worded (Ok x) = Ok x
+worded (Err flaw) = Err (Word flaw)
 
--- the first word is read, and more is made of it and of the words after it
-abbrev pub next : {X Y : Type 0} → (List ℕ → Result X FlawKind) → List (List ℕ) → (X → List (List ℕ) → Result Y FlawKind) → Result Y FlawKind
-next read [] more = Err TooFewWords
-next read (w ∷ ws) more = and_then (read w) (λ x. more x ws)
-
--- a number and the words after it
-abbrev pub paired : ℕ → List (List ℕ) → Result (ℕ × List (List ℕ)) FlawKind
-paired n ws = Ok (n, ws)
-
--- nothing more is said
-abbrev pub ended : {X : Type 0} → X → List (List ℕ) → Result X FlawKind
-ended x [] = Ok x
-ended x (w ∷ ws) = Err TooManyWords
+-- a number, and more by it and the words after it
+abbrev pub numbered : {Y : Type 0} → ℕ → ℕ → List (List ℕ) → (ℕ → List (List ℕ) → Result Y FlawKind) → Result Y FlawKind
+numbered low high ws more = next (Word TooFewWords) (λ w. worded (number_of low high w)) ws more
 
 -- the word "at"
 abbrev pub at_word : List ℕ → Result (List ℕ) FlawKind
@@ -36,17 +30,17 @@ at_word w = if bytes_eq w (codes "at") then Ok w else Err AtMissing
 
 -- one number up to high, and nothing more
 abbrev pub only_number_of : ℕ → List (List ℕ) → Result ℕ FlawKind
-only_number_of high ws = next (number_of 0 high) ws ended
+only_number_of high ws = numbered 0 high ws (ended (Word TooManyWords))
 
 -- at TIME
 abbrev pub moment_of : List (List ℕ) → Result ℕ FlawKind
-moment_of ws = next at_word ws (λ _ ws. only_number_of 4294967295 ws)
+moment_of ws = next (Word TooFewWords) at_word ws (λ _ ws. only_number_of 4294967295 ws)
 
 -- FARM LITRES at TIME
 abbrev pub milking_of : ℕ → List (List ℕ) → Result Start FlawKind
 milking_of farms ws =
-    next (number_of 1 farms) ws (λ farm ws.
-    next (number_of 0 4294967295) ws (λ litres ws.
+    numbered 1 farms ws (λ farm ws.
+    numbered 0 4294967295 ws (λ litres ws.
     and_then (moment_of ws) (λ time. Ok (record { time = time; receiver = farm; kind = 0; «data» = litres }))))
 
 -- what was given before is given twice

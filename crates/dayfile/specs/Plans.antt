@@ -25,8 +25,9 @@ use Rattle.dayfile.specs.declared.line.Settings.{Settings}
 use Rattle.dayfile.specs.declared.line.Entry.{Entry}
 use Rattle.dayfile.specs.declared.line.Entry.TheVariants.{Set, Milked}
 use Rattle.dayfile.specs.declared.plan.Milking.{Milking}
-use Rattle.dayfile.specs.Text.{lines_of, said, words_of}
-use Rattle.dayfile.specs.Lines.{and_then, entry_of}
+use Rattle.text.specs.Text.{lines_of, said, words_of}
+use Rattle.text.specs.Reading.{and_then}
+use Rattle.dayfile.specs.Lines.{entry_of}
 
 -- what the lines so far have told
 pub record Told : Type 0 where

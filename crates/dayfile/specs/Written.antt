@@ -2,15 +2,10 @@
 use Rattle.std.specs.Prelude.{◌≡◌, ℕ, ◌+◌, ◌≤◌, ⊤, List, [], ◌∷◌, ◌++◌, map, codes, decimal}
 use Rattle.std.specs.List.{flat_map, AllByRecursion}
 use Rattle.event.specs.declared.Start.{Start}
+use Rattle.text.specs.Written.{spaced}
 use Rattle.dayfile.specs.declared.plan.Milking.{Milking}
 use Rattle.dayfile.specs.Plans.{Sheet}
 use Rattle.dayfile.specs.Laws.{Farmed}
-
--- words with a space between each two
-abbrev pub spaced : List (List ℕ) → List ℕ
-spaced [] = []
-spaced (w ∷ []) = w
-spaced (w ∷ v ∷ ws) = w ++ (32 ∷ spaced (v ∷ ws))
 
 abbrev pub milked_words : Start → List (List ℕ)
 milked_words m = codes "milked" ∷ decimal m.receiver ∷ decimal m.«data» ∷ codes "at" ∷ decimal m.time ∷ []

@@ -1,18 +1,18 @@
 // What is wrong with a day file, and on which line.
 ghost use Rattle.std.specs.Prelude.{◌≡◌, Some};
+ghost use Rattle.dayfile.specs.declared.flaw.FlawKind.TheVariants.{Word};
 ghost use Rattle.dayfile.specs.Flaws.{wording, message};
 
 use std::error::Error;
 use std::fmt;
+use text::WordFlaw;
 
 #[derive(Clone, Copy, PartialEq, Eq, Debug)]
 pub enum FlawKind {
     // a line begins with none of the four words
     UnknownWord,
-    TooFewWords,
-    TooManyWords,
-    NotANumber,
-    OutOfRange,
+    // the words of a line are too few or too many, or a number is none or out of its range
+    Word(WordFlaw),
     // another word stands between litres and time
     AtMissing,
     GivenTwice,
@@ -32,6 +32,14 @@ pub struct Flaw {
     pub kind: FlawKind,
 }
 
+impl From<WordFlaw> for FlawKind {
+    ghost from_gives = { λ flaw kind. kind ≡ Word flaw };
+
+    fn from(flaw: WordFlaw) -> FlawKind {
+        FlawKind::Word(flaw)
+    }
+}
+
 impl FlawKind {
     // A flaw of this kind on a line.
     pub(crate) fn at(self, line: usize) -> Flaw
@@ -46,10 +54,7 @@ impl FlawKind {
     {
         match self {
             FlawKind::UnknownWord => "the first word is none of farms, tankers, end and milked",
-            FlawKind::TooFewWords => "a word is missing at the end",
-            FlawKind::TooManyWords => "there is a word too many",
-            FlawKind::NotANumber => "a number is wanted, of decimal digits only",
-            FlawKind::OutOfRange => "a number is too small or too large",
+            FlawKind::Word(flaw) => flaw.words(),
             FlawKind::AtMissing => "\"at\" is missing between litres and time",
             FlawKind::GivenTwice => "this was given on an earlier line",
             FlawKind::MilkedBeforeFarms => "farms has to be given before the first milked",

@@ -12,7 +12,6 @@
 mod flaw;
 mod line;
 mod plan;
-mod text;
 mod word;
 
 pub use flaw::{Flaw, FlawKind};
@@ -24,6 +23,7 @@ mod tests {
     use event::Start;
     use std::alloc::Global;
     use std::test::Fail;
+    use text::WordFlaw;
 
     const TUESDAY: &str =
         "# Tuesday\nfarms 3\ntankers 1\nend 3000\nmilked 2 1000 at 0        # farm, litres, second of the day\nmilked 1 500 at 5\nmilked 3 500 at 5\n";
@@ -93,18 +93,34 @@ mod tests {
             ("farms 3\nend 5\n", 3, FlawKind::TankersMissing),
             ("farms 3\ntankers 1", 3, FlawKind::EndMissing),
             ("farms 3\nherds 2", 2, FlawKind::UnknownWord),
-            ("\nfarms", 2, FlawKind::TooFewWords),
-            ("farms 3 4", 1, FlawKind::TooManyWords),
-            ("farms +3", 1, FlawKind::NotANumber),
-            ("farms 256", 1, FlawKind::OutOfRange),
-            ("end 4294967296", 1, FlawKind::OutOfRange),
-            ("end 100000000000000000000", 1, FlawKind::OutOfRange),
+            ("\nfarms", 2, FlawKind::Word(WordFlaw::TooFewWords)),
+            ("farms 3 4", 1, FlawKind::Word(WordFlaw::TooManyWords)),
+            ("farms +3", 1, FlawKind::Word(WordFlaw::NotANumber)),
+            ("farms 256", 1, FlawKind::Word(WordFlaw::OutOfRange)),
+            ("end 4294967296", 1, FlawKind::Word(WordFlaw::OutOfRange)),
+            (
+                "end 100000000000000000000",
+                1,
+                FlawKind::Word(WordFlaw::OutOfRange),
+            ),
             ("farms 3\n#\nfarms 3", 3, FlawKind::GivenTwice),
             ("milked 1 5 at 0\nfarms 3", 1, FlawKind::MilkedBeforeFarms),
-            ("farms 3\nmilked 0 5 at 0", 2, FlawKind::OutOfRange),
-            ("farms 3\nmilked 4 5 at 0", 2, FlawKind::OutOfRange),
+            (
+                "farms 3\nmilked 0 5 at 0",
+                2,
+                FlawKind::Word(WordFlaw::OutOfRange),
+            ),
+            (
+                "farms 3\nmilked 4 5 at 0",
+                2,
+                FlawKind::Word(WordFlaw::OutOfRange),
+            ),
             ("farms 3\nmilked 1 5 0", 2, FlawKind::AtMissing),
-            ("farms 3\nmilked 1 5 at", 2, FlawKind::TooFewWords),
+            (
+                "farms 3\nmilked 1 5 at",
+                2,
+                FlawKind::Word(WordFlaw::TooFewWords),
+            ),
         ];
         for (text, line, kind) in table {
             assert_eq!(rt;

@@ -1,15 +1,14 @@
 // What a line says: nothing, a setting of the day, or a milking.
 ghost use Rattle.std.specs.Prelude.{◌≡◌, ◌≤◌, IfOk};
-ghost use Rattle.dayfile.specs.Text.{said, words_of};
-ghost use Rattle.dayfile.specs.Words.{number_of};
-ghost use Rattle.dayfile.specs.Held.{behind};
-ghost use Rattle.dayfile.specs.Lines.{next, paired, only_number_of, moment_of, milking_of, once, entry_for, entry_of};
+ghost use Rattle.text.specs.Text.{said, words_of};
+ghost use Rattle.text.specs.Reading.{paired, behind};
+ghost use Rattle.dayfile.specs.Lines.{numbered, only_number_of, moment_of, milking_of, once, entry_for, entry_of};
 
 use crate::flaw::FlawKind;
-use crate::text::Words;
-use crate::word::{Keyword, number};
+use crate::word::Keyword;
 use collection::Kind;
 use event::Start;
+use text::{WordFlaw, Words};
 
 // What the lines so far have set.
 #[derive(Clone, Copy, Default)]
@@ -29,11 +28,10 @@ pub(crate) enum Entry {
 
 // The next word as a number from `low` to `high`.
 fn next_number(words: &mut Words, low: u32, high: u32) -> Result<u32, FlawKind>
-    ensures value { behind result words.new ≡ next (number_of low high) words.old paired }
+    ensures value { behind result words.new ≡ numbered low high words.old paired }
     ensures within { IfOk result (λ n. n ≤ high) }
 {
-    let word = words.next().ok_or(FlawKind::TooFewWords)?;
-    number(word, low, high)
+    Ok(words.number(low, high)?)
 }
 
 // One number up to `high`, and nothing more.
@@ -42,17 +40,14 @@ fn only_number(mut words: Words, high: u32) -> Result<u32, FlawKind>
     ensures within { IfOk result (λ n. n ≤ high) }
 {
     let n = next_number(&mut words, 0, high)?;
-    match words.next() {
-        Some(_) => Err(FlawKind::TooManyWords),
-        None => Ok(n),
-    }
+    Ok(words.end(n)?)
 }
 
 // "at" and a time, and nothing more.
 fn moment(mut words: Words) -> Result<u32, FlawKind>
     ensures { result ≡ moment_of words.entry }
 {
-    let word = words.next().ok_or(FlawKind::TooFewWords)?;
+    let word = words.next().ok_or(WordFlaw::TooFewWords)?;
     if word != b"at".as_slice() {
         return Err(FlawKind::AtMissing);
     }

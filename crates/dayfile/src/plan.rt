@@ -7,10 +7,10 @@ ghost use Rattle.dayfile.specs.Written.{Writable, written};
 
 use crate::flaw::{Flaw, FlawKind};
 use crate::line::{Entry, Settings};
-use crate::text::Lines;
 use event::Start;
 use std::alloc::{AllocError, Global};
 use std::marker::Model;
+use text::Lines;
 
 // A milking of the day: the line of the file that gives it, and its start.
 #[derive(Clone, Copy, PartialEq, Eq, Debug)]

@@ -1,6 +1,6 @@
 -- A plan that is read is sound, and is read back from its text.
 use Rattle.std.proofs.Common.{rules}
-use Rattle.dayfile.proofs.Cuts.{length_lines}
+use Rattle.text.proofs.Cuts.{length_lines}
 use Rattle.dayfile.proofs.Soundness.{sound_answer}
 use Rattle.dayfile.proofs.ReadBack.{answered}
 use Rattle.dayfile.proofs.plan.read.Goals as goal

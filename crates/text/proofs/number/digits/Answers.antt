@@ -4,9 +4,9 @@ use Rattle.std.specs.Char.{is_ascii_digit}
 use Rattle.std.proofs.lemmas.Bool.{eqb-true, eqb-false}
 use Rattle.std.proofs.lemmas.Iterator.{YieldsList-from_slice}
 use Rattle.std.proofs.lemmas.Iterator.Search.{all_from_yields_List}
-use Rattle.dayfile.proofs.Words.{empty_not, digits_not, digits_given}
-use Rattle.dayfile.proofs.word.digits.Goals.{then-is_empty-via-then-is_empty, then-is_empty-via-else-is_empty+then-not-all}
-use Rattle.dayfile.proofs.word.digits.Goals as goal
+use Rattle.text.proofs.Numbers.{empty_not, digits_not, digits_given}
+use Rattle.text.proofs.number.digits.Goals.{then-is_empty-via-then-is_empty, then-is_empty-via-else-is_empty+then-not-all}
+use Rattle.text.proofs.number.digits.Goals as goal
 
 pub returns-then-is_empty : goal.returns-then-is_empty
 returns-then-is_empty c =

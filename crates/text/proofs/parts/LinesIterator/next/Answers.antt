@@ -1,9 +1,9 @@
 -- The first line ends at the first newline, and the rest begins after it.
 use Rattle.std.proofs.Common.{◌≡◌, drop, length, sym, ap, ◌∙◌, arith, rules}
 use Rattle.std.proofs.lemmas.Bool.{eqb-false}
-use Rattle.dayfile.specs.Text.{newline}
-use Rattle.dayfile.proofs.Cuts.{lines_first, past_mark}
-use Rattle.dayfile.proofs.text.LinesIterator.next.Goals as goal
+use Rattle.text.specs.Text.{newline}
+use Rattle.text.proofs.Cuts.{lines_first, past_mark}
+use Rattle.text.proofs.parts.LinesIterator.next.Goals as goal
 
 pub returns-clause-steps : goal.returns-clause-steps
 returns-clause-steps c =

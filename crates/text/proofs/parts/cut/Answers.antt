@@ -3,8 +3,8 @@ use Rattle.std.proofs.Common.{◌≡◌, refl}
 use Rattle.std.specs.List.{position_or_len}
 use Rattle.std.proofs.lemmas.Iterator.{YieldsList-from_slice}
 use Rattle.std.proofs.lemmas.Iterator.Search.{position_from_yields_List}
-use Rattle.dayfile.proofs.Cuts.{cut_first, end_first}
-use Rattle.dayfile.proofs.text.cut.Goals as goal
+use Rattle.text.proofs.Cuts.{cut_first, end_first}
+use Rattle.text.proofs.parts.cut.Goals as goal
 
 pub returns : goal.returns
 returns g c mark h =

@@ -1,9 +1,9 @@
 -- The digits parse as the number.
 use Rattle.std.proofs.Common.{◌≡◌, true, inl, inr, rules, arith}
-use Rattle.dayfile.specs.Words.{is_number}
-use Rattle.dayfile.proofs.Words.{number_within, number_outside, number_past}
-use Rattle.dayfile.proofs.word.number.Goals.{In_ok-digits}
-use Rattle.dayfile.proofs.word.number.Goals as goal
+use Rattle.text.specs.Numbers.{is_number}
+use Rattle.text.proofs.Numbers.{number_within, number_outside, number_past}
+use Rattle.text.proofs.number.parse_number.Goals.{In_ok-digits}
+use Rattle.text.proofs.number.parse_number.Goals as goal
 
 given : (c : In_ok-digits) → (is_number c.args.word.now ≡ true) × (c.in_ok-digits.digits.now ≡ c.args.word.now)
 given c = search rules

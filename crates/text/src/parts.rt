@@ -1,9 +1,14 @@
 // A text in its parts: its lines, what a line says before its comment, its words.
-ghost use Rattle.std.specs.Prelude.{◌≡◌, ℕ, Bool};
+ghost use Rattle.std.specs.Prelude.{◌≡◌, ◌≤◌, ℕ, Bool, IfOk};
 ghost use Rattle.std.specs.Fn.{FnReturnsAt};
 ghost use Rattle.std.specs.Iterator.{YieldsFirstRef, item_count};
-ghost use Rattle.dayfile.specs.Text.{blank, before, onward, said, lines_of, words_of};
+ghost use Rattle.text.specs.declared.flaw.WordFlaw.TheVariants.{TooFewWords, TooManyWords};
+ghost use Rattle.text.specs.Text.{blank, before, onward, said, lines_of, words_of};
+ghost use Rattle.text.specs.Numbers.{number_of};
+ghost use Rattle.text.specs.Reading.{next, ended, paired, behind};
 
+use crate::flaw::WordFlaw;
+use crate::number::parse_number;
 use std::marker::Model;
 
 fn is_blank(byte: &u8) -> bool
@@ -23,13 +28,13 @@ fn cut<F: Fn(&u8) -> bool>(text: &[u8], is_mark: F) -> (&[u8], &[u8])
 
 // The lines of a text that are still to come.
 #[derive(Drop)]
-pub(crate) struct Lines<'a> {
+pub struct Lines<'a> {
     rest: &'a [u8],
 }
 
 impl<'a> Model for Lines<'a> {
     ghost use Rattle.std.specs.Prelude.{ℕ, List};
-    ghost use Rattle.dayfile.specs.Text.{lines_of};
+    ghost use Rattle.text.specs.Text.{lines_of};
 
     ghost Value = { List (List ℕ) };
 
@@ -37,7 +42,8 @@ impl<'a> Model for Lines<'a> {
 }
 
 impl<'a> Lines<'a> {
-    pub(crate) fn of(text: &'a [u8]) -> Lines<'a>
+    // The lines of a text, each without its newline.
+    pub fn of(text: &'a [u8]) -> Lines<'a>
         ensures { result ≡ lines_of text.now }
     {
         Lines { rest: text }
@@ -64,13 +70,13 @@ impl<'a> Iterator for Lines<'a> {
 
 // The words of a line that are still to come.
 #[derive(Drop)]
-pub(crate) struct Words<'a> {
+pub struct Words<'a> {
     rest: &'a [u8],
 }
 
 impl<'a> Model for Words<'a> {
     ghost use Rattle.std.specs.Prelude.{ℕ, List};
-    ghost use Rattle.dayfile.specs.Text.{words_of};
+    ghost use Rattle.text.specs.Text.{words_of};
 
     ghost Value = { List (List ℕ) };
 
@@ -78,12 +84,31 @@ impl<'a> Model for Words<'a> {
 }
 
 impl<'a> Words<'a> {
-    // What a line says before its comment.
-    pub(crate) fn of(line: &'a [u8]) -> Words<'a>
+    // The words that a line says before its comment.
+    pub fn of(line: &'a [u8]) -> Words<'a>
         ensures { result ≡ words_of (said line.now) }
     {
         let (rest, _) = cut(line, |byte| *byte == b'#');
         Words { rest }
+    }
+
+    // The next word as a number from `low` to `high`.
+    pub fn number(&mut self, low: u32, high: u32) -> Result<u32, WordFlaw>
+        ensures value { behind result self.new ≡ next TooFewWords (number_of low high) self.old paired }
+        ensures within { IfOk result (λ n. n ≤ high) }
+    {
+        let word = self.next().ok_or(WordFlaw::TooFewWords)?;
+        parse_number(word, low, high)
+    }
+
+    // What was read, where nothing more is said.
+    pub fn end<T: Copy>(mut self, read: T) -> Result<T, WordFlaw>
+        ensures { result ≡ ended TooManyWords read self.entry }
+    {
+        match self.next() {
+            Some(_) => Err(WordFlaw::TooManyWords),
+            None => Ok(read),
+        }
     }
 }
 

@@ -1,9 +1,9 @@
 -- The word begins at the first graphic byte and ends before the next blank.
 use Rattle.std.proofs.Common.{sym, ap, ◌∙◌, length, arith, rules}
 use Rattle.std.proofs.lemmas.Bool.{eqb-true, eqb-false}
-use Rattle.dayfile.specs.Text.{blank, graphic}
-use Rattle.dayfile.proofs.Cuts.{words_none, words_first}
-use Rattle.dayfile.proofs.text.WordsIterator.next.Goals as goal
+use Rattle.text.specs.Text.{blank, graphic}
+use Rattle.text.proofs.Cuts.{words_none, words_first}
+use Rattle.text.proofs.parts.WordsIterator.next.Goals as goal
 
 pub returns-then-is_empty-clause-steps : goal.returns-then-is_empty-clause-steps
 returns-then-is_empty-clause-steps c =

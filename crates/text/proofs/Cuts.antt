@@ -9,7 +9,7 @@ use Rattle.std.proofs.lemmas.List.Sums.{prefix_len-le-length}
 use Rattle.std.proofs.lemmas.Bool.Decides.{nat_tests}
 use Rattle.std.proofs.lemmas.List.{take_all, length-drop, nil_from_length}
 use Rattle.std.proofs.lemmas.Bool.{cases_Bool, cond_both}
-use Rattle.dayfile.specs.Text.{newline, blank, graphic, some, before, onward, pieces, lines_of, words_of}
+use Rattle.text.specs.Text.{newline, blank, graphic, some, before, onward, pieces, lines_of, words_of}
 
 module _ (mark : ℕ → Bool) where
   -- the cut is at the first mark, or at the end

@@ -1,0 +1,5 @@
+pub mod Flaws
+pub mod Text
+pub mod Numbers
+pub mod Reading
+pub mod Written
