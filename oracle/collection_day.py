@@ -5,7 +5,10 @@
 
 prints what `dispatch FILE` must print. It shares nothing with the library: the
 waiting messages are an unsorted list, and each event looks for the smallest key.
+The last line comes from a second computation of the day, in which what waits is
+kept in order and each message is put at its place.
 """
+import bisect
 import sys
 
 DRIVE = {1: 600, 2: 900, 3: 900, 4: 1200, 5: 450, 6: 1500, 7: 1500, 8: 750, 9: 1050, 10: 600}
@@ -109,9 +112,16 @@ class Day:
                 return [(0, 1, FREE, 0)]
         return self.ignore(w, kind, data)
 
-    def event(self):
+    def take(self):
         m = min(self.waiting, key=lambda x: x[:4])
         self.waiting.remove(m)
+        return m
+
+    def put(self, m):
+        self.waiting.append(m)
+
+    def event(self):
+        m = self.take()
         time, p, sender, _, kind, data = m
         sends = self.react(p, time, sender, kind, data)
         self.journal.append(m)
@@ -119,10 +129,37 @@ class Day:
             n = self.places[p].sent
             self.places[p].sent += 1
             if time + delay <= self.end:
-                self.waiting.append((time + delay, receiver, p, n, k, d))
+                self.put((time + delay, receiver, p, n, k, d))
             else:
                 self.lost += 1
         return m, sends
+
+
+class OrderedDay(Day):
+    """The same day; what waits stands in the order of its keys."""
+
+    def __init__(self, *settings):
+        super().__init__(*settings)
+        self.waiting.sort(key=lambda x: x[:4])
+
+    def take(self):
+        return self.waiting.pop(0)
+
+    def put(self, m):
+        keys = [x[:4] for x in self.waiting]
+        self.waiting.insert(bisect.bisect_left(keys, m[:4]), m)
+
+
+def verdict(day, alone):
+    """Where two days part: at an event, or at how a place stands."""
+    if day.journal != alone.journal:
+        pairs = zip(day.journal, alone.journal)
+        same = next((i for i, (a, b) in enumerate(pairs) if a != b), min(len(day.journal), len(alone.journal)))
+        return f"differs after {same} events"
+    for p, (a, b) in enumerate(zip(day.places, alone.places)):
+        if (a.words, a.order, a.sent) != (b.words, b.order, b.sent):
+            return f"differs at place {p}"
+    return "agrees"
 
 
 def moment(t):
@@ -162,6 +199,7 @@ def words(day, m, sends):
 def main():
     farms, tankers, end, starts = read(sys.argv[1])
     day = Day(farms, tankers, end, starts)
+    alone = OrderedDay(farms, tankers, end, starts)
     print(f"farms: {farms}, tankers: {tankers}, end of day: {moment(end)}")
     while day.waiting:
         m, sends = day.event()
@@ -178,6 +216,10 @@ def main():
     print("last unloading:", moment(unloads[-1]) if unloads else "none")
     print("events run:", len(day.journal))
     print("messages lost after the end:", day.lost)
+    while alone.waiting:
+        alone.event()
+    print("run alone:", verdict(day, alone))
 
 
-main()
+if __name__ == "__main__":
+    main()
