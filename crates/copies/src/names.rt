@@ -1,0 +1,94 @@
+// The table of names: which cell each variant has at each place.
+ghost use Rattle.std.specs.Prelude.{◌≡◌, ℕ, ◌&&◌, ◌+◌, ◌*◌, ◌%◌, ◌<◌, length, ◌==◌, nat_lt, if◌then◌else◌, slice_index_or};
+ghost use Rattle.copies.specs.Sharing.{copy_cells, move_cell};
+ghost use Rattle.copies.specs.Starts.{starting_cell};
+
+use group::{Group, VARIANTS};
+use std::array;
+
+// The most places that a model has.
+pub(crate) const PLACES: u8 = 32;
+
+// How many cells there are.
+pub(crate) const CELLS: u8 = 128;
+
+// A row of 32 cells for each variant. No variant and no place beyond them has a name of its own.
+// In one array, since nothing is known of the lengths of arrays in an array.
+#[derive(Clone, Copy)]
+pub(crate) struct Names {
+    rows: [u8; 512],
+    ghost inside: { (i : ℕ) → slice_index_or rows i 0 < 128 },
+}
+
+// Where the name of v at the place p stands.
+fn index(v: u8, p: u8) -> usize
+    ensures { result ≡ v * 32 + p }
+{
+    usize::from(v) * usize::from(PLACES) + usize::from(p)
+}
+
+// The cell p for the place p, row by row.
+fn starting_rows() -> [u8; 512]
+    ensures cells { (i : ℕ) → i < 512 → slice_index_or result i 0 ≡ i % 32 }
+    ensures len { length result ≡ 512 }
+{
+    array::from_fn(|i| (i % usize::from(PLACES)) as u8)
+}
+
+impl Names {
+    ghost use Rattle.copies.specs.Names.{cell_in};
+
+    // Every variant has the cell p at the place p.
+    pub(crate) fn new() -> Names
+        ensures { cell_in result ≡ starting_cell }
+    {
+        Names {
+            rows: starting_rows(),
+        }
+    }
+
+    // The cell of v at the place p.
+    pub(crate) fn cell(&self, v: u8, p: u8) -> u8
+        ensures value { result ≡ cell_in self.now v p }
+        ensures inside { result < 128 }
+    {
+        if v < VARIANTS && p < PLACES {
+            self.rows[index(v, p)]
+        } else {
+            0
+        }
+    }
+
+    // The child has its parent's cells.
+    pub(crate) fn copy_row(&mut self, parent: u8, child: u8)
+        ensures { cell_in self.new ≡ (if nat_lt parent 16 && nat_lt child 16 then copy_cells (cell_in self.old) parent child else cell_in self.old) }
+    {
+        if parent < VARIANTS && child < VARIANTS {
+            let row = index(parent, 0)..index(parent, PLACES);
+            self.rows.copy_within(row, index(child, 0));
+        }
+    }
+
+    // v has the cell c at the place p from now on.
+    fn set(&mut self, v: u8, p: u8, c: u8)
+        requires variant { v < 16 }
+        requires place { p < 32 }
+        requires cell { c < 128 }
+        ensures { (w q : ℕ) → cell_in self.new w q ≡ (if w == v && q == p then c else cell_in self.old w q) }
+    {
+        self.rows[index(v, p)] = c;
+    }
+
+    // The group has the cell c at the place p from now on.
+    pub(crate) fn move_group(&mut self, group: Group, p: u8, c: u8)
+        requires place { p < 32 }
+        requires cell { c < 128 }
+        ensures { cell_in self.new ≡ move_cell (cell_in self.old) group p c }
+    {
+        for v in 0..VARIANTS {
+            if group.has(v) {
+                self.set(v, p, c);
+            }
+        }
+    }
+}
