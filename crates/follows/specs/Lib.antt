@@ -1,0 +1,10 @@
+pub mod Accounted
+pub mod Answering
+pub mod Claims
+pub mod Follows
+pub mod Modest
+pub mod Ready
+pub mod Refusing
+pub mod Rooms
+pub mod Steps
+pub mod View
