@@ -1,0 +1,104 @@
+-- A group's run and the turns of a step, by what they leave.
+use Rattle.std.proofs.Common.{◌≡◌, ℕ, suc, ◌+◌, ◌^◌, ◌<◌, min, true, ltb, ◌&&◌, List, length, sym, refl, ap, ◌∙◌, subst, add-one, arith}
+use Rattle.std.specs.Prelude.{if◌then◌else◌}
+use Rattle.std.proofs.lemmas.Bool.{cond-true, lt-ltb, and_from}
+use Rattle.event.specs.Lists.{first}
+use Rattle.group.specs.declared.Group.{Group}
+use Rattle.calendar.specs.Contents.{Contents}
+use Rattle.calendar.specs.declared.Held.{Held}
+use Rattle.calendar.specs.Calls.{waiting}
+use Rattle.model.specs.declared.Sends.{Sends}
+use Rattle.model.specs.Meaning.{Meaning, Law, listed}
+use Rattle.day.specs.declared.place.Place.{Place}
+use Rattle.day.specs.Day.{reaction, stamped, within, posted_by, place_after}
+use Rattle.copies.specs.Sharing.{sharers, target, move_cell, move_content}
+use Rattle.follows.specs.View.{View, put_all}
+use Rattle.follows.specs.Steps.{ran_group, turn_of, turns}
+use Rattle.follows.specs.Rooms.{put_each}
+use Rattle.follows.proofs.Rooms.{puts_accepted}
+use Rattle.study.specs.declared.register.Register.{Register}
+use Rattle.study.specs.declared.Study.{Study}
+use Rattle.study.specs.Promises.{view_from, view_of, SameParts}
+use Rattle.follows.specs.Ready.{Ready}
+use Rattle.study.specs.Turns.{TurnReady, TurnsReady}
+
+-- one more run is counted
+pub counted : (n : ℕ) → n + 1 < 2 ^ 32 → min (n + 1) 4294967295 ≡ suc n
+counted n h = omega arith
+
+module _ (M : Meaning) (law : Law M) (old new : Contents) (register : Register) (cell cell' : ℕ → ℕ → ℕ) (content content' : ℕ → Place) (entries : List Held) (h : Held) (v t executions : ℕ) (place : Place) (sends : Sends) where
+  abbrev V : View
+  V = view_from old register cell content entries
+
+  abbrev r : ℕ
+  r = h.message.receiver
+
+  abbrev p : Place
+  p = content (cell v r)
+
+  abbrev G : Group
+  G = sharers cell h.group r v
+
+  -- what is left where a group has run, on the cell t
+  pub ran_view : Ready M old.room V h v → new ≡ put_each G (within register.end (stamped h.message.time r p.sent (listed sends))) old → sends ≡ (reaction M p h.message).sends → place ≡ place_after M p h.message
+      → t ≡ target M.places cell register.live G r v → t < 128
+      → cell' ≡ (if ltb r 32 && ltb t 128 then move_cell cell G r t else cell) → content' ≡ (if ltb r 32 && ltb t 128 then move_content content t place else content) → executions ≡ suc register.executions
+      → view_from new (record register { executions = executions }) cell' content' entries ≡ ran_group M V h v
+  ran_view ready e q w at inside c d x = λ i. record {
+    loaded = register.loaded;
+    end = register.end;
+    held = held i;
+    cell = cells i;
+    content = contents i;
+    entries = entries;
+    live = register.live;
+    undecided = register.undecided;
+    made = register.made;
+    executions = x i;
+    puts = puts i;
+  }
+    where
+      posted : new ≡ put_each G (posted_by M register.end p h.message) old
+      posted = e ∙ ap (λ s. put_each G (within register.end (stamped h.message.time r p.sent (listed s))) old) q
+
+      accepted : new ≡ record { held = put_all G (posted_by M register.end p h.message) old.held; room = old.room; puts = old.puts + length (posted_by M register.end p h.message) }
+      accepted = posted ∙ puts_accepted G (posted_by M register.end p h.message) old ready.room.held ready.room.puts
+
+      held : new.held ≡ put_all G (posted_by M register.end p h.message) old.held
+      held = ap (λ k. k.held) accepted
+
+      puts : new.puts ≡ old.puts + length (posted_by M register.end p h.message)
+      puts = ap (λ k. k.puts) accepted
+
+      inside_both : (ltb r 32 && ltb t 128) ≡ true
+      inside_both = let most = law.most in let k = ready.receiver in and_from _ _ (lt-ltb r 32 (omega arith)) (lt-ltb t 128 inside)
+
+      cells : cell' ≡ move_cell cell G r (target M.places cell register.live G r v)
+      cells = c ∙ cond-true (ltb r 32 && ltb t 128) (move_cell cell G r t) cell inside_both ∙ ap (move_cell cell G r) at
+
+      contents : content' ≡ move_content content (target M.places cell register.live G r v) (place_after M p h.message)
+      contents = d ∙ cond-true (ltb r 32 && ltb t 128) (move_content content t place) content inside_both ∙ ap (λ z. move_content content z place) at ∙ ap (move_content content (target M.places cell register.live G r v)) w
+
+turns_zero : (M : Meaning) (heads : List Held) (V : View) → turns M heads V 0 ≡ V
+unfolding turns
+turns_zero M heads V = refl
+
+turns_more : (M : Meaning) (heads : List Held) (V : View) (n : ℕ) → turns M heads V (n + 1) ≡ turn_of M (turns M heads V n) n (first (waiting n heads))
+unfolding turns
+turns_more M heads V n = ap (turns M heads V) (add-one n)
+
+-- the turns of a study, one after the other
+module _ {C M : Type 0} (contents : C → Contents) (meaning : M → Meaning) (old : Study C M) where
+  abbrev pub Turned : Study C M → ℕ → Type 0
+  Turned s v = TurnsReady (meaning old.model) (contents old.calendar).room old.heads.items (view_of contents old) → view_of contents s ≡ turns (meaning old.model) old.heads.items (view_of contents old) v
+
+  pub turned_none : Turned old 0
+  turned_none ready = sym (turns_zero (meaning old.model) old.heads.items (view_of contents old))
+
+  pub turned_more : (s t : Study C M) (v : ℕ) → v < 16 → SameParts contents old s → s.heads ≡ old.heads → Turned s v
+      → (TurnReady (meaning s.model) (contents s.calendar).room s.heads.items (view_of contents s) v → view_of contents t ≡ turn_of (meaning s.model) (view_of contents s) v (first (waiting v s.heads.items))) → Turned t (v + 1)
+  turned_more s t v l same heads h turn ready =
+      let e = h ready in
+      turn (subst (λ (x : Meaning × ℕ × List Held × View). TurnReady x.0 x.1 x.2 x.3 v) (λ i. (meaning (sym same.model i), sym same.room i, (sym heads i).items, sym e i)) (ready v l))
+      ∙ (λ i. turn_of (meaning (same.model i)) (e i) v (first (waiting v (heads i).items)))
+      ∙ sym (turns_more (meaning old.model) old.heads.items (view_of contents old) v)
