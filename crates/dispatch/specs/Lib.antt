@@ -1,1 +1,2 @@
 pub mod Position
+pub mod Readings

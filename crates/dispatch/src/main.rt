@@ -1,16 +1,19 @@
-// dispatch FILE: reads a day file, runs the day alone, and prints what happened.
+// dispatch FILE: reads a day file, runs the day on a study, prints what happened, and compares it with the day run alone.
 #![tactic(auto)]
 
-ghost use Rattle.std.specs.Prelude.{◌≡◌};
-ghost use Rattle.dispatch.specs.Position.{position_of};
+mod refused;
+mod studied;
 
+ghost use Rattle.std.specs.Prelude.{◌≡◌, IfSome};
+
+use crate::refused::{alone_refused, refused, unmade};
+use crate::studied::DayStudy;
 use anyhow::anyhow;
 use collection::Collection;
-use day::{DayFault, LoneDay, Stop};
+use day::{DayFault, LoneDay, Ran};
 use dayfile::Plan;
-use model::ModelFault;
-use refusal::Refusal;
-use report::{Deed, Heading, Line, summary};
+use event::Message;
+use report::{Deed, Heading, Line, Verdict, summary};
 use std::alloc::Global;
 use std::process::ExitCode;
 use std::{env, fs};
@@ -18,75 +21,71 @@ use std::{env, fs};
 // The messages that a calendar holds.
 const CAPACITY: u16 = 512;
 
-// Where in the starting list a fault lies, if it lies there.
-fn position(fault: DayFault) -> Option<u32>
-    ensures { result ≡ position_of fault }
+// The events that a day has room for.
+const EVENTS: usize = 2048;
+
+// The day of a plan, alone.
+fn load_alone(
+    heap: Global,
+    model: Collection,
+    plan: &Plan,
+) -> Result<LoneDay<Collection>, DayFault> {
+    let starts = plan.starts(heap)?;
+    LoneDay::load(heap, model, CAPACITY, starts.as_slice(), plan.end)
+}
+
+// The next event of the day alone, if it is of this message.
+fn same_event(alone: &mut LoneDay<Collection>, message: Message) -> Option<Ran>
+    ensures { IfSome result (λ ran. ran.message ≡ message) }
 {
-    match fault {
-        DayFault::StartPlace(i) | DayFault::StartTime(i) | DayFault::StartRoom(i) => Some(i),
-        _ => None,
-    }
+    alone
+        .event()
+        .ok()
+        .flatten()
+        .filter(|ran| ran.message == message)
 }
 
-// Why the day is refused, with the line of the file where one is to blame.
-fn refused(heap: Global, plan: &Plan, fault: DayFault) -> anyhow::Error {
-    let number = Refusal::from(fault).number;
-    let milking = position(fault).and_then(|i| plan.milkings.get(i as usize));
-    let told = match milking {
-        Some(milking) => format!(in heap; "line {}: refused {number}: {fault}", milking.line),
-        None => format!(in heap; "refused {number}: {fault}"),
-    };
-    match told {
-        Ok(text) => anyhow!(text),
-        Err(_) => fault.into(),
-    }
-}
-
-// Why there is no model.
-fn unmade(heap: Global, fault: ModelFault) -> anyhow::Error {
-    let number = Refusal::from(fault).number;
-    match format!(in heap; "refused {number}: there are 1 to 10 farms and 1 to 6 tankers") {
-        Ok(text) => anyhow!(text),
-        Err(e) => e.into(),
-    }
-}
-
-// Runs the day to its last event, a line for each.
-fn run_day(rt: &HostRuntime, plan: &Plan, day: &mut LoneDay<Collection>) -> anyhow::Result<()> {
-    let ended = day.run(|model, ran| {
+// Runs the study to its last event and the day alone beside it, a line for each. Stops early where the two differ.
+fn run_both(
+    rt: &HostRuntime,
+    plan: &Plan,
+    study: &mut DayStudy,
+    alone: &mut LoneDay<Collection>,
+) -> anyhow::Result<()> {
+    for i in 0..=EVENTS {
+        let stepped = studied::step(study, i).map_err(|fault| refused(rt.alloc(), plan, fault))?;
+        let Some(ran) = stepped.and_then(|message| same_event(alone, message)) else {
+            return Ok(());
+        };
         let line = Line {
             time: ran.message.time,
-            deed: Deed::of(model, ran),
+            deed: Deed::of(alone.model(), &ran),
         };
-        println!(rt; "{line}")
-    });
-    ended.map_err(|stop| match stop {
-        Stop::Refused(fault) => refused(rt.alloc(), plan, fault),
-        Stop::Untold(error) => error.into(),
-    })
+        println!(rt; "{line}")?;
+    }
+    Ok(())
 }
 
-// Prints the day of a plan.
-fn print_day(rt: &HostRuntime, plan: &Plan) -> anyhow::Result<()> {
+// Prints the day of a plan. Tells whether it agrees with the day run alone.
+fn print_day(rt: &HostRuntime, plan: &Plan) -> anyhow::Result<Verdict> {
     let heap = rt.alloc();
     let model = Collection::new(plan.farms, plan.tankers).map_err(|fault| unmade(heap, fault))?;
-    let starts = plan
-        .starts(heap)
-        .map_err(|_| refused(heap, plan, DayFault::Memory))?;
-    let mut day = LoneDay::load(heap, model, CAPACITY, starts.as_slice(), plan.end).map_err(
-        |fault| refused(heap, plan, fault),
-    )?;
+    let mut study = studied::load(heap, model, plan).map_err(|fault| refused(heap, plan, fault))?;
+    let mut alone = load_alone(heap, model, plan).map_err(|fault| alone_refused(heap, fault))?;
     let heading = Heading {
         farms: plan.farms,
         tankers: plan.tankers,
         end: plan.end,
     };
     println!(rt; "{heading}")?;
-    run_day(rt, plan, &mut day)?;
-    for fact in summary(heap, &day)?.iter() {
+    run_both(rt, plan, &mut study, &mut alone)?;
+    let ended = studied::read(heap, model, &study).map_err(|fault| refused(heap, plan, fault))?;
+    for fact in summary(heap, &ended)?.iter() {
         println!(rt; "{fact}")?;
     }
-    Ok(())
+    let verdict = Verdict::of(&ended, &alone);
+    println!(rt; "{verdict}")?;
+    Ok(verdict)
 }
 
 // Tells the status: a file that cannot be read ends with its own message.
@@ -101,8 +100,10 @@ fn run(rt: &HostRuntime) -> anyhow::Result<ExitCode> {
         }
     };
     let plan = dayfile::read(rt.alloc(), text.as_slice())?;
-    print_day(rt, &plan)?;
-    Ok(ExitCode::SUCCESS)
+    match print_day(rt, &plan)? {
+        Verdict::Agrees => Ok(ExitCode::SUCCESS),
+        _ => Ok(ExitCode::FAILURE),
+    }
 }
 
 fn main(rt: HostRuntime) -> ExitCode {

@@ -1,2 +1,3 @@
 pub mod Clocks
+pub mod Messages
 pub mod Unloadings

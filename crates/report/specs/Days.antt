@@ -1,9 +1,8 @@
--- A collection day that a lone day holds.
-use Rattle.collection.specs.declared.Collection.{Collection}
-use Rattle.collection.specs.Rules.{meaning_of}
-use Rattle.day.specs.declared.lone.LoneDay.{LoneDay}
+-- A collection day that has ended, as a day.
+use Rattle.std.specs.Prelude.{[], slice_index_or, vec_items}
+use Rattle.day.specs.Blank.{blank_place}
 use Rattle.day.specs.Day.{Day}
-use Rattle.day.specs.Held.{day_of}
+use Rattle.report.specs.declared.ended.Ended.{Ended}
 
-abbrev pub the_day : LoneDay Collection → Day
-the_day d = day_of (meaning_of d.model.farms d.model.tankers) d
+abbrev pub the_day : Ended → Day
+the_day d = record { place = λ p. slice_index_or (vec_items d.places) p blank_place; waiting = []; journal = vec_items d.journal }

@@ -1,4 +1,5 @@
 pub mod Days
 pub mod Deeds
 pub mod Summary
+pub mod Verdicts
 pub mod Words

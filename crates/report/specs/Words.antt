@@ -5,6 +5,8 @@ use Rattle.report.specs.declared.deed.Deed.TheVariants.{Milked, Waits, SentOut, 
 use Rattle.report.specs.declared.figures.Fact.{Fact}
 use Rattle.report.specs.declared.figures.Fact.TheVariants.{Received, Left, NotVisited, LastUnloading, Events, Lost}
 use Rattle.report.specs.declared.deed.Who.{Who}
+use Rattle.report.specs.declared.verdict.Verdict.{Verdict}
+use Rattle.report.specs.declared.verdict.Verdict.TheVariants.{Agrees, DiffersAfter, DiffersAt}
 use Rattle.report.specs.declared.deed.Who.TheVariants.{Dairy, Farm, Tanker, Nobody}
 
 -- a number below 100 in two digits
@@ -56,3 +58,9 @@ fact_words (Lost n) = codes "messages lost after the end: " ++ decimal n
 -- the day at a glance
 abbrev pub heading_words : ℕ → ℕ → ℕ → List ℕ
 heading_words f t end = codes "farms: " ++ (decimal f ++ (codes ", tankers: " ++ (decimal t ++ (codes ", end of day: " ++ moment_words end))))
+
+-- whether the day run alone agrees
+abbrev pub verdict_words : Verdict → List ℕ
+verdict_words Agrees = codes "run alone: agrees"
+verdict_words (DiffersAfter n) = codes "run alone: differs after " ++ (decimal n ++ codes " events")
+verdict_words (DiffersAt p) = codes "run alone: differs at place " ++ decimal p

@@ -1,11 +1,11 @@
 // The figures of a collection day.
-ghost use Rattle.std.specs.Prelude.{◌≡◌, ◌+◌, ◌≤◌, ◌++◌, IfOk, OnOk, count_by};
+ghost use Rattle.std.specs.Prelude.{◌≡◌, ◌+◌, ◌++◌, IfOk, OnOk, count_by};
 ghost use Rattle.collection.specs.Kinds.{number_of};
 ghost use Rattle.report.specs.Days.{the_day};
 ghost use Rattle.report.specs.Summary.{some, is_milking_message, is_pumping_message, comes_from_tanker_to, is_sent, not_visited, last_unloading_of, all_sent_of, lost, left_facts, unvisited_up_to, facts_of};
 
+use crate::ended::Ended;
 use collection::{Collection, DAIRY, Kind};
-use day::{LoneDay, Place};
 use event::{Message, START_SENDER};
 use std::alloc::{AllocError, Global};
 
@@ -34,35 +34,35 @@ fn comes_from_tanker(model: &Collection, place: u8, kind: Kind, m: &Message) -> 
 }
 
 // Whether the farm has milked.
-fn has_milked(day: &LoneDay<Collection>, farm: u8) -> bool
+fn has_milked(day: &Ended, farm: u8) -> bool
     ensures { result ≡ some (is_milking_message farm) (the_day day.now).journal }
 {
-    day.journal().iter().any(|m| is_milking(farm, m))
+    day.journal.iter().any(|m| is_milking(farm, m))
 }
 
 // Whether a tanker has pumped at the farm.
-fn was_pumped(day: &LoneDay<Collection>, farm: u8) -> bool
+fn was_pumped(day: &Ended, farm: u8) -> bool
     ensures { result ≡ some (is_pumping_message day.now.model.farms day.now.model.tankers farm) (the_day day.now).journal }
 {
-    day.journal()
+    day.journal
         .iter()
-        .any(|m| comes_from_tanker(day.model(), farm, Kind::Pump, m))
+        .any(|m| comes_from_tanker(&day.model, farm, Kind::Pump, m))
 }
 
 // Whether the farm has milked, and no tanker has pumped there.
-fn is_unvisited(day: &LoneDay<Collection>, farm: u8) -> bool
+fn is_unvisited(day: &Ended, farm: u8) -> bool
     ensures { result ≡ not_visited day.now.model.farms day.now.model.tankers (the_day day.now).journal farm }
 {
     has_milked(day, farm) && !was_pumped(day, farm)
 }
 
 // When a tanker last began to unload.
-fn last_unloading(day: &LoneDay<Collection>) -> Option<u32>
+fn last_unloading(day: &Ended) -> Option<u32>
     ensures { result ≡ last_unloading_of day.now.model.farms day.now.model.tankers (the_day day.now).journal }
 {
-    day.journal()
+    day.journal
         .iter()
-        .rfind(|m| comes_from_tanker(day.model(), DAIRY, Kind::Unload, m))
+        .rfind(|m| comes_from_tanker(&day.model, DAIRY, Kind::Unload, m))
         .map(|m| m.time)
 }
 
@@ -73,48 +73,38 @@ fn count_sent(messages: &[Message]) -> u64
     messages.iter().filter(|m| m.sender != START_SENDER).count() as u64
 }
 
-// A place of the day.
-fn place_of(day: &LoneDay<Collection>, p: u8) -> Place
-    requires { p ≤ day.now.model.farms + day.now.model.tankers }
-    ensures { result ≡ (the_day day.now).place p }
-{
-    day.place(p).unwrap()
-}
-
 // How many messages the places have sent.
-fn all_sent(day: &LoneDay<Collection>) -> u64
+fn all_sent(day: &Ended) -> u64
     ensures { result ≡ all_sent_of (1 + day.now.model.farms + day.now.model.tankers) (the_day day.now) }
 {
-    let model = day.model();
+    let model = day.model;
     let places = 0..model.farms() + model.tankers() + 1;
-    places.map(|p| u64::from(place_of(day, p).sent)).sum()
+    places.map(|p| u64::from(day.place(p).sent)).sum()
 }
 
 // How many of them were later than the end of day.
-fn count_lost(day: &LoneDay<Collection>) -> u64
+fn count_lost(day: &Ended) -> u64
     ensures { result ≡ lost (1 + day.now.model.farms + day.now.model.tankers) (the_day day.now) }
 {
-    all_sent(day)
-        .saturating_sub(count_sent(day.journal()))
-        .saturating_sub(count_sent(day.waiting()))
+    all_sent(day).saturating_sub(count_sent(&day.journal))
 }
 
 // Adds what is left at each farm.
-fn add_left(facts: &mut Vec<Fact>, day: &LoneDay<Collection>) -> Result<(), AllocError>
+fn add_left(facts: &mut Vec<Fact>, day: &Ended) -> Result<(), AllocError>
     ensures { OnOk result (facts.new.items ≡ facts.old.items ++ left_facts day.now.model.farms (the_day day.now)) }
 {
-    let farms = 1..day.model().farms() + 1;
+    let farms = 1..day.model.farms() + 1;
     facts.extend(farms.map(|farm| Fact::Left {
         farm,
-        litres: place_of(day, farm).words[0],
+        litres: day.place(farm).words[0],
     }))
 }
 
 // Adds the farms that no tanker has visited.
-fn add_unvisited(facts: &mut Vec<Fact>, day: &LoneDay<Collection>) -> Result<(), AllocError>
+fn add_unvisited(facts: &mut Vec<Fact>, day: &Ended) -> Result<(), AllocError>
     ensures { OnOk result (facts.new.items ≡ facts.old.items ++ unvisited_up_to day.now.model.farms day.now.model.farms day.now.model.tankers (the_day day.now).journal) }
 {
-    let farms = 1..day.model().farms() + 1;
+    let farms = 1..day.model.farms() + 1;
     facts.extend(
         farms
             .filter(|farm| is_unvisited(day, *farm))
@@ -123,15 +113,15 @@ fn add_unvisited(facts: &mut Vec<Fact>, day: &LoneDay<Collection>) -> Result<(),
 }
 
 // The summary of a day.
-pub fn summary(heap: Global, day: &LoneDay<Collection>) -> Result<Vec<Fact>, AllocError>
+pub fn summary(heap: Global, day: &Ended) -> Result<Vec<Fact>, AllocError>
     ensures { IfOk result (λ v. v.items ≡ facts_of day.now.model.farms day.now.model.tankers (the_day day.now)) }
 {
     let mut facts = Vec::new(heap);
-    facts.push(Fact::Received(place_of(day, DAIRY).words[3]))?;
+    facts.push(Fact::Received(day.place(DAIRY).words[3]))?;
     add_left(&mut facts, day)?;
     add_unvisited(&mut facts, day)?;
     facts.push(Fact::LastUnloading(last_unloading(day)))?;
-    facts.push(Fact::Events(day.events()))?;
+    facts.push(Fact::Events(day.journal.len()))?;
     facts.push(Fact::Lost(count_lost(day)))?;
     Ok(facts)
 }

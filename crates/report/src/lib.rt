@@ -2,9 +2,13 @@
 #![tactic(auto)]
 
 mod deed;
+mod ended;
 mod figures;
+mod verdict;
 mod words;
 
 pub use deed::{Deed, Who};
+pub use ended::Ended;
 pub use figures::{Fact, summary};
+pub use verdict::Verdict;
 pub use words::{Clock, Heading, Line, Moment};

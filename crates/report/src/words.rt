@@ -1,9 +1,10 @@
 // The words for what happened.
 ghost use Rattle.std.specs.Prelude.{◌≡◌, Some};
-ghost use Rattle.report.specs.Words.{clock_words, moment_words, who_words, deed_words, line_words, unloading_words, fact_words, heading_words};
+ghost use Rattle.report.specs.Words.{clock_words, moment_words, who_words, deed_words, line_words, unloading_words, fact_words, heading_words, verdict_words};
 
 use crate::deed::{Deed, Who};
 use crate::figures::Fact;
+use crate::verdict::Verdict;
 use std::fmt;
 
 // Seconds of the day, shown as h:mm:ss.
@@ -153,5 +154,17 @@ impl fmt::Display for Heading {
         let tankers = self.tankers;
         let end = Moment(self.end);
         write!(f, "farms: {farms}, tankers: {tankers}, end of day: {end}")
+    }
+}
+
+impl fmt::Display for Verdict {
+    ghost output = { λ v. Some (verdict_words v) };
+
+    fn fmt<W: fmt::Write>(&self, f: &mut fmt::Formatter<W>) -> fmt::Result {
+        match self {
+            Verdict::Agrees => write!(f, "run alone: agrees"),
+            Verdict::DiffersAfter(events) => write!(f, "run alone: differs after {events} events"),
+            Verdict::DiffersAt { place } => write!(f, "run alone: differs at place {place}"),
+        }
     }
 }
