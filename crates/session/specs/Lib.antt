@@ -1,0 +1,4 @@
+pub mod Calendars
+pub mod Models
+pub mod Calls
+pub mod Sessions
