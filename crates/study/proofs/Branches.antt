@@ -1,22 +1,21 @@
 -- A branch, an order and a waived permit are denied as the account's are, and leave what they are to leave.
-use Rattle.std.proofs.Common.{◌≡◌, ℕ, ◌<◌, ⊎_elim, Bool, true, false, ltb, leb, not, [], ◌∷◌, Some, None, Option, Ok, Err, Result, sym, refl, ap, ◌∙◌}
+use Rattle.std.proofs.Common.{◌≡◌, ℕ, ◌<◌, ⊎_elim, Bool, true, false, ltb, leb, not, [], ◌∷◌, Some, None, sym, refl}
 use Rattle.std.specs.Prelude.{if◌then◌else◌}
 use Rattle.std.proofs.lemmas.Bool.{cases_Bool, both_ways, ltb-true}
 use Rattle.std.proofs.lemmas.Option.{none-some}
 use Rattle.group.proofs.Members.{has_above}
-use Rattle.group.specs.Groups.{has}
+use Rattle.group.specs.Groups.{count, has}
 use Rattle.calendar.specs.Contents.{Contents}
 use Rattle.model.specs.Meaning.{Meaning, Law}
-use Rattle.account.specs.Account.{Call, branch, decide, waive}
-use Rattle.account.specs.Refusals.{Case, by_study, first_met}
+use Rattle.account.specs.Account.{Call, branch, decide, waive, retire}
+use Rattle.account.specs.Refusals.{by_study, first_met}
 use Rattle.copies.specs.Sharing.{groups, shares_decided}
 use Rattle.follows.specs.View.{View}
 use Rattle.follows.specs.Refusing.{refusal_of}
 use Rattle.follows.specs.Answering.{fed_view}
 use Rattle.study.specs.declared.Study.{Study}
-use Rattle.study.specs.declared.fault.StudyFault.{StudyFault}
-use Rattle.study.specs.declared.fault.StudyFault.TheVariants.{NotLoaded, Variant, Undecided, Permit, Place, Made, Copies}
-use Rattle.study.specs.Branches.{branch_fault, permit_fault, decide_fault}
+use Rattle.study.specs.declared.fault.StudyFault.TheVariants.{NotLoaded, Variant, Undecided, Permit, Place, Made, Last, Copies}
+use Rattle.study.specs.Branches.{branch_fault, permit_fault, decide_fault, retire_fault}
 use Rattle.study.specs.Promises.{view_of, Keeps, SameParts}
 use Rattle.study.proofs.Promises.{told_by, denial, keeps_accepted}
 use Rattle.study.proofs.Steps.{alike_same}
@@ -42,6 +41,17 @@ of_permit : (a b : Bool) → first_met (by_study 2 (not a) ∷ by_study 10 (not 
 of_permit false b = refl
 of_permit true false = refl
 of_permit true true = refl
+
+of_retire : (a b c d : Bool) → first_met (by_study 2 (not a) ∷ by_study 8 (not b) ∷ by_study 9 c ∷ by_study 13 d ∷ [])
+    ≡ told_by (if not a then Some NotLoaded else if not b then Some Variant else if c then Some Undecided else if d then Some Last else None)
+of_retire false b c d = refl
+of_retire true false c d = refl
+of_retire true true true d = refl
+of_retire true true false true = refl
+of_retire true true false false = refl
+
+pub retire_same : (M : Meaning) (capacity : ℕ) (V : View) (v : ℕ) → refusal_of M capacity V (retire v) ≡ told_by (retire_fault V v)
+retire_same M capacity V v = of_retire V.loaded (has V.live v) (has V.undecided v) (leb (count (has V.live) 16) 1)
 
 pub branch_same : (M : Meaning) (capacity : ℕ) (V : View) (v : ℕ) → refusal_of M capacity V (branch v) ≡ told_by (branch_fault V v)
 branch_same M capacity V v = of_branch V.loaded (has V.live v) (has V.undecided v) (leb 16 V.made)

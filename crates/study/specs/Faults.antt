@@ -43,6 +43,10 @@ loaded_fault loaded = if not loaded then Some NotLoaded else None
 abbrev pub live_fault : Bool → Bool → Option StudyFault
 live_fault loaded live = if not loaded then Some NotLoaded else if not live then Some Variant else None
 
+-- of a variant that is live or not, and undecided or not
+abbrev pub decided_fault : Bool → Bool → Bool → Option StudyFault
+decided_fault loaded live undecided = if not loaded then Some NotLoaded else if not live then Some Variant else if undecided then Some Undecided else None
+
 -- of a place among so many
 abbrev pub place_fault : ℕ → ℕ → Option StudyFault
 place_fault places p = if nat_le places p then Some Place else None

@@ -1,10 +1,10 @@
-// A study is branched, and an order is given to the new variant.
+// A study is branched, an order is given to the new variant, and a variant is retired.
 ghost use Rattle.std.specs.Prelude.{◌≡◌, ◌<◌, false, is_ok, IfErr};
 ghost use Rattle.std.specs.Result.{result_err};
-ghost use Rattle.account.specs.Account.{branch, decide, waive};
+ghost use Rattle.account.specs.Account.{branch, decide, waive, retire};
 ghost use Rattle.account.specs.Answers.{variant, done};
-ghost use Rattle.follows.specs.View.{branched, decided, waived};
-ghost use Rattle.study.specs.Branches.{branch_fault, permit_fault, decide_fault, why};
+ghost use Rattle.follows.specs.View.{branched, decided, retired, waived};
+ghost use Rattle.study.specs.Branches.{branch_fault, permit_fault, decide_fault, retire_fault, why};
 ghost use Rattle.study.specs.Promises.{Answers, Keeps, SameParts, Tells, view_of};
 
 use crate::Study;
@@ -19,10 +19,7 @@ impl<C: Calendar, M: Model> Study<C, M> {
     fn check_branch(&self, v: u8) -> Result<(), StudyFault>
         ensures { result_err result ≡ branch_fault (view_of C.meaning self.now) v }
     {
-        self.register.check_live(v)?;
-        if self.register.undecided.has(v) {
-            return Err(StudyFault::Undecided);
-        }
+        self.register.check_decided(v)?;
         if self.register.made >= VARIANTS {
             return Err(StudyFault::Made);
         }
@@ -136,6 +133,39 @@ impl<C: Calendar, M: Model> Study<C, M> {
         let Permit { variant } = permit;
         self.check_permit(variant)?;
         self.set_decided(variant);
+        Ok(())
+    }
+
+    fn check_retire(&self, v: u8) -> Result<(), StudyFault>
+        ensures { result_err result ≡ retire_fault (view_of C.meaning self.now) v }
+    {
+        self.register.check_decided(v)?;
+        if self.register.live.size() <= 1 {
+            return Err(StudyFault::Last);
+        }
+        Ok(())
+    }
+
+    // v leaves every group, and what no variant has left is dropped.
+    fn remove(&mut self, v: u8)
+        ensures held { view_of C.meaning self.new ≡ retired (view_of C.meaning self.old) v }
+        ensures same { SameParts C.meaning self.old self.new }
+    {
+        self.calendar.erase(v);
+        self.journal.erase(v);
+        self.register.live = self.register.live.without(v);
+    }
+
+    // Ends a variant. Copies and entries that no live one has are free for use.
+    pub fn retire(&mut self, v: u8) -> Result<(), StudyFault>
+        ensures told { Tells C.meaning M.meaning self.old (retire v) (λ _. done) result }
+        ensures unchanged { is_ok result ≡ false → self.new ≡ self.old }
+        ensures same { SameParts C.meaning self.old self.new }
+        ensures answer { Answers C.meaning M.meaning self.old (retire v) (λ _. done) result }
+        ensures keeps { Keeps C.meaning M.meaning self.old (retire v) self.new }
+    {
+        self.check_retire(v)?;
+        self.remove(v);
         Ok(())
     }
 }

@@ -3,7 +3,7 @@ ghost use Rattle.std.specs.Prelude.{◌≡◌, ◌≤◌, Some, None, if◌then�
 ghost use Rattle.std.specs.Result.{result_err};
 ghost use Rattle.group.specs.Groups.{has};
 ghost use Rattle.study.specs.Registers.{blank_register, decided_register, loaded_register};
-ghost use Rattle.study.specs.Faults.{loaded_fault, live_fault};
+ghost use Rattle.study.specs.Faults.{decided_fault, loaded_fault, live_fault};
 
 use crate::fault::StudyFault;
 use group::{Group, VARIANTS};
@@ -72,6 +72,17 @@ impl Register {
         self.check_loaded()?;
         if !self.live.has(v) {
             return Err(StudyFault::Variant);
+        }
+        Ok(())
+    }
+
+    // v is a live variant of a loaded study, and its permit is spent.
+    pub(crate) fn check_decided(&self, v: u8) -> Result<(), StudyFault>
+        ensures { result_err result ≡ decided_fault self.now.loaded (has self.now.live v) (has self.now.undecided v) }
+    {
+        self.check_live(v)?;
+        if self.undecided.has(v) {
+            return Err(StudyFault::Undecided);
         }
         Ok(())
     }

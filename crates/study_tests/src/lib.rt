@@ -2,57 +2,31 @@
 #![tactic(auto)]
 
 #[cfg(test)]
+mod asking;
+#[cfg(test)]
+mod retired;
+#[cfg(test)]
+mod starts;
+#[cfg(test)]
 mod variants;
 
 #[cfg(test)]
 mod tests {
+    use crate::asking::{Ask, Told, asks, refused};
+    use crate::starts::{Row, message, milked, passed};
     use bucket_calendar::store::BucketCalendar;
     use calendar::Calendar;
-    use collection::{Collection, Kind};
+    use collection::Collection;
     use day::LoneDay;
     use event::{Message, Start};
     use heap_calendar::store::HeapCalendar;
     use model::Model;
-    use phold::{PASSED_ON, Phold};
+    use phold::Phold;
     use refusal::{Layer, Refusal};
     use std::alloc::Global;
     use std::process::Abort;
     use std::test::Fail;
     use study::Study;
-    use study::fault::StudyFault;
-
-    // time, receiver, sender, number, kind, data
-    type Row = (u32, u8, u8, u32, u8, u32);
-
-    fn message(row: &Row) -> Message {
-        let (time, receiver, sender, number, kind, data) = *row;
-        Message {
-            time,
-            receiver,
-            sender,
-            number,
-            kind,
-            data,
-        }
-    }
-
-    fn milked(farm: u8, litres: u32, time: u32) -> Start {
-        Start {
-            time,
-            receiver: farm,
-            kind: Kind::Milked.into(),
-            data: litres,
-        }
-    }
-
-    fn passed(place: u8, data: u32, time: u32) -> Start {
-        Start {
-            time,
-            receiver: place,
-            kind: PASSED_ON,
-            data,
-        }
-    }
 
     // Three farms, one tanker.
     const DAIRY: [Row; 15] = [
@@ -88,20 +62,26 @@ mod tests {
         study: &mut Study<C, M>,
         rows: &[Row],
         places: u32,
-    ) -> Result<(), Fail> {
+    ) {
         let mut executions: u32 = 0;
         for (i, row) in rows.iter().enumerate() {
-            assert_eq!(rt; study.next(0)?, Some(message(row)));
-            assert_eq!(rt; study.step()?, 1);
+            let message = message(row);
             executions = executions.saturating_add(1);
-            assert_eq!(rt; study.events(0)?, i + 1);
-            assert_eq!(rt; study.entry(0, i)?, message(row));
-            assert_eq!(rt; study.totals()?, (executions, places, i + 1));
+            let table = [
+                (Ask::Next(0), Told::Next(Some(message))),
+                (Ask::Steps(1), Told::Ran(1)),
+                (Ask::Events(0), Told::Events(i + 1)),
+                (Ask::Entry(0, i), Told::Entry(message)),
+                (Ask::Totals, Told::Totals(executions, places, i + 1)),
+            ];
+            asks(rt, study, &table);
         }
-        assert_eq!(rt; study.next(0)?, None);
-        assert_eq!(rt; study.step()?, 0);
-        assert_eq!(rt; study.events(0)?, rows.len());
-        Ok(())
+        let table = [
+            (Ask::Next(0), Told::Next(None)),
+            (Ask::Steps(1), Told::Ran(0)),
+            (Ask::Events(0), Told::Events(rows.len())),
+        ];
+        asks(rt, study, &table);
     }
 
     fn runs_the_dairy<C: Calendar + Drop>(
@@ -112,12 +92,15 @@ mod tests {
         let starts = [milked(2, 1000, 0), milked(1, 500, 5), milked(3, 500, 5)];
         let mut study = Study::new(heap, calendar, Collection::new(3, 1)?)?;
         assert_eq!(rt; study.load(&starts, 3000)?, 0);
-        runs(rt, &mut study, &DAIRY, 5)?;
+        runs(rt, &mut study, &DAIRY, 5);
         let dairy = study.place(0, 0)?;
         assert_eq!(rt; dairy.words, [8, 0, 2013, 1000, 0, 0, 0, 0]);
         assert_eq!(rt; (dairy.order, dairy.sent), (0, 3));
-        assert!(rt; study.shares(0, 0, 4)?);
-        assert_eq!(rt; study.group(0, 4)?, 1);
+        let table = [
+            (Ask::Shares(0, 0, 4), Told::Shares(true)),
+            (Ask::Group(0, 4), Told::Group(1)),
+        ];
+        asks(rt, &mut study, &table);
         Ok(())
     }
 
@@ -125,7 +108,7 @@ mod tests {
         let starts = [passed(1, 5, 7), passed(0, 6, 0)];
         let mut study = Study::new(heap, calendar, Phold::new(2, 3, 0)?)?;
         assert_eq!(rt; study.load(&starts, 100)?, 0);
-        runs(rt, &mut study, &PASSING, 2)?;
+        runs(rt, &mut study, &PASSING, 2);
         let last = study.place(0, 1)?;
         assert_eq!(rt; last.words, [600_067_843, 4, 0, 0, 0, 0, 0, 0]);
         assert_eq!(rt; (last.order, last.sent), (0, 4));
@@ -144,17 +127,25 @@ mod tests {
     // The newest entry, what waits next, and every place.
     fn agrees<C: Calendar, M: Model>(
         rt: &impl Abort,
-        study: &Study<C, M>,
+        study: &mut Study<C, M>,
         day: &LoneDay<M>,
     ) -> Result<(), Fail> {
-        let events = study.events(0)?;
-        assert_eq!(rt; events, day.events());
+        let events = day.events();
+        let table = [
+            (Ask::Events(0), Told::Events(events)),
+            (Ask::Next(0), Told::Next(day.waiting().first().copied())),
+        ];
+        asks(rt, study, &table);
         if events > 0 {
-            assert_eq!(rt; study.entry(0, events - 1)?, day.entry(events - 1)?);
+            let newest = day.entry(events - 1)?;
+            asks(
+                rt,
+                study,
+                &[(Ask::Entry(0, events - 1), Told::Entry(newest))],
+            );
         }
-        assert_eq!(rt; study.next(0)?, day.waiting().first().copied());
         for p in 0..day.model().places() {
-            assert_eq!(rt; study.place(0, p)?, day.place(p)?);
+            asks(rt, study, &[(Ask::Place(0, p), Told::Place(day.place(p)?))]);
         }
         Ok(())
     }
@@ -170,11 +161,15 @@ mod tests {
         let mut day = LoneDay::load(heap, model, 512, starts, 3000)?;
         let mut study = Study::new(heap, calendar, model)?;
         let _ = study.load(starts, 3000)?;
-        agrees(rt, &study, &day)?;
+        agrees(rt, &mut study, &day)?;
         for _ in 0..300 {
             let ran = day.event()?.is_some();
-            assert_eq!(rt; study.step()?, u32::from(ran));
-            agrees(rt, &study, &day)?;
+            asks(
+                rt,
+                &mut study,
+                &[(Ask::Steps(1), Told::Ran(u32::from(ran)))],
+            );
+            agrees(rt, &mut study, &day)?;
         }
         assert!(rt; day.waiting().is_empty());
         Ok(())
@@ -203,38 +198,67 @@ mod tests {
         keeps_beside(&rt, heap, BucketCalendar::new(heap)?, dairy, &milk)
     }
 
-    fn refusal(number: u8, layer: Layer, position: u32) -> Refusal {
-        Refusal {
-            number,
-            layer,
-            position,
-        }
+    // Why a load is refused.
+    fn load_refused<C: Calendar, M: Model>(
+        study: &mut Study<C, M>,
+        starts: &[Start],
+        end: u32,
+    ) -> Option<(u8, Layer, u32)> {
+        let refusal = Refusal::from(study.load(starts, end).err()?);
+        Some((refusal.number, refusal.layer, refusal.position))
     }
 
-    fn is_refused<T: Drop>(
+    // A load is looked at for its end, and then at each message.
+    fn loads_are_refused<C: Calendar, M: Model>(
         rt: &impl Abort,
-        told: Result<T, StudyFault>,
-        layer: Layer,
-        number: u8,
-        position: u32,
+        study: &mut Study<C, M>,
+        good: Start,
+        nowhere: Start,
     ) {
-        assert_eq!(rt;
-            told.err().map(Refusal::from),
-            Some(refusal(number, layer, position))
-        );
+        let late = Start { time: 31, ..good };
+        let told = load_refused(study, &[nowhere], 1_000_001);
+        assert_eq!(rt; told, Some((4, Layer::Study, 0)));
+        let told = load_refused(study, &[late, nowhere], 30);
+        assert_eq!(rt; told, Some((6, Layer::Study, 0)));
+        let told = load_refused(study, &[good, nowhere], 30);
+        assert_eq!(rt; told, Some((5, Layer::Study, 1)));
+        let told = load_refused(study, &[good; 513], 30);
+        assert_eq!(rt; told, Some((7, Layer::Calendar, 512)));
     }
 
-    // What a reading of no one's is refused with, at this variant and place, past all entries.
-    fn readings_are_refused<C: Calendar, M: Model>(
-        rt: &impl Abort,
-        study: &Study<C, M>,
-        v: u8,
-        p: u8,
-        number: u8,
-    ) {
-        is_refused(rt, study.place(v, p), Layer::Study, number, 0);
-        is_refused(rt, study.shares(v, v, p), Layer::Study, number, 0);
-        is_refused(rt, study.group(v, p), Layer::Study, number, 0);
+    // The calls that meet no load.
+    fn unloaded(places: u8) -> [(Ask, Told); 8] {
+        [
+            (Ask::Steps(1), refused(2)),
+            (Ask::Totals, refused(2)),
+            (Ask::Next(0), refused(2)),
+            (Ask::Events(0), refused(2)),
+            (Ask::Entry(0, 0), refused(2)),
+            (Ask::Place(16, places), refused(2)),
+            (Ask::Shares(16, 16, places), refused(2)),
+            (Ask::Group(16, places), refused(2)),
+        ]
+    }
+
+    // The calls at a study whose calendar is full, and at which nothing has run.
+    fn full(places: u8, first: Message) -> [(Ask, Told); 15] {
+        [
+            (Ask::Steps(1), refused(7)),
+            (Ask::Events(1), refused(8)),
+            (Ask::Next(255), refused(8)),
+            (Ask::Entry(1, 0), refused(8)),
+            (Ask::Shares(0, 1, 0), refused(8)),
+            (Ask::Place(1, places), refused(8)),
+            (Ask::Shares(1, 1, places), refused(8)),
+            (Ask::Group(1, places), refused(8)),
+            (Ask::Place(0, places), refused(11)),
+            (Ask::Shares(0, 0, places), refused(11)),
+            (Ask::Group(0, places), refused(11)),
+            (Ask::Entry(0, 0), refused(16)),
+            (Ask::Events(0), Told::Events(0)),
+            (Ask::Next(0), Told::Next(Some(first))),
+            (Ask::Totals, Told::Totals(0, u32::from(places), 0)),
+        ]
     }
 
     // A study of so many places, before and after its load of as many messages as a calendar holds.
@@ -246,33 +270,15 @@ mod tests {
     ) -> Result<(), Fail> {
         let places = model.places();
         let mut study = Study::new(heap, calendar, model)?;
-        is_refused(rt, study.step(), Layer::Study, 2, 0);
-        is_refused(rt, study.totals(), Layer::Study, 2, 0);
-        is_refused(rt, study.next(0), Layer::Study, 2, 0);
-        is_refused(rt, study.events(0), Layer::Study, 2, 0);
-        is_refused(rt, study.entry(0, 0), Layer::Study, 2, 0);
-        readings_are_refused(rt, &study, 16, places, 2);
+        asks(rt, &mut study, &unloaded(places));
         let good = passed(0, 1, 30);
-        let late = passed(0, 1, 31);
         let nowhere = passed(places, 1, 31);
-        is_refused(rt, study.load(&[nowhere], 1_000_001), Layer::Study, 4, 0);
-        is_refused(rt, study.load(&[late, nowhere], 30), Layer::Study, 6, 0);
-        is_refused(rt, study.load(&[good, nowhere], 30), Layer::Study, 5, 1);
-        is_refused(rt, study.load(&[good; 513], 30), Layer::Calendar, 7, 512);
-        is_refused(rt, study.events(0), Layer::Study, 2, 0);
+        loads_are_refused(rt, &mut study, good, nowhere);
+        asks(rt, &mut study, &[(Ask::Events(0), refused(2))]);
         assert_eq!(rt; study.load(&[good; 512], 30)?, 0);
-        is_refused(rt, study.load(&[nowhere], 1_000_001), Layer::Study, 3, 0);
-        is_refused(rt, study.step(), Layer::Study, 7, 0);
-        is_refused(rt, study.events(1), Layer::Study, 8, 0);
-        is_refused(rt, study.next(255), Layer::Study, 8, 0);
-        is_refused(rt, study.entry(1, 0), Layer::Study, 8, 0);
-        is_refused(rt, study.shares(0, 1, 0), Layer::Study, 8, 0);
-        readings_are_refused(rt, &study, 1, places, 8);
-        readings_are_refused(rt, &study, 0, places, 11);
-        is_refused(rt, study.entry(0, 0), Layer::Study, 16, 0);
-        assert_eq!(rt; study.events(0)?, 0);
-        assert_eq!(rt; study.next(0)?, Some(good.message(0)));
-        assert_eq!(rt; study.totals()?, (0, u32::from(places), 0));
+        let told = load_refused(&mut study, &[nowhere], 1_000_001);
+        assert_eq!(rt; told, Some((3, Layer::Study, 0)));
+        asks(rt, &mut study, &full(places, good.message(0)));
         Ok(())
     }
 
@@ -296,12 +302,14 @@ mod tests {
         let heap = rt.alloc();
         let mut study = Study::new(heap, HeapCalendar::new(heap)?, Phold::new(1, 6, 0)?)?;
         let _ = study.load(&[passed(0, 0, 0)], 1_000_000)?;
-        for _ in 0..2048 {
-            assert_eq!(rt; study.step()?, 1);
-        }
-        is_refused(&rt, study.step(), Layer::Study, 14, 0);
-        assert_eq!(rt; study.totals()?, (2048, 1, 2048));
-        assert_eq!(rt; study.next(0)?, Some(message(&(102_296, 0, 0, 2047, 0, 0))));
+        let next = message(&(102_296, 0, 0, 2047, 0, 0));
+        let table = [
+            (Ask::Steps(2048), Told::Ran(1)),
+            (Ask::Steps(1), refused(14)),
+            (Ask::Totals, Told::Totals(2048, 1, 2048)),
+            (Ask::Next(0), Told::Next(Some(next))),
+        ];
+        asks(&rt, &mut study, &table);
         Ok(())
     }
 }
