@@ -1,4 +1,5 @@
 pub mod Branches
+pub mod Crowds
 pub mod Loads
 pub mod Plain
 pub mod Promises

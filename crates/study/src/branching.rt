@@ -10,7 +10,6 @@ ghost use Rattle.study.specs.Promises.{Answers, Keeps, SameParts, Tells, view_of
 use crate::Study;
 use crate::fault::StudyFault;
 use crate::permit::{Denied, Permit};
-use crate::stepping::COPIES;
 use calendar::Calendar;
 use group::{Group, VARIANTS};
 use model::Model;
@@ -72,10 +71,7 @@ impl<C: Calendar, M: Model> Study<C, M> {
     {
         self.check_permit(v)?;
         self.check_place(place)?;
-        let copies = self
-            .copies
-            .groups_decided(self.register.live, self.model.places(), v, place);
-        if copies > COPIES {
+        if !self.fits_decided(v, place) {
             return Err(StudyFault::Copies);
         }
         Ok(())

@@ -3,6 +3,7 @@
 #![tactic(auto)]
 
 mod branching;
+mod crowding;
 pub mod fault;
 mod heads;
 mod limits;

@@ -26,9 +26,6 @@ use group::VARIANTS;
 use journal::{ENTRIES, Journal};
 use model::{Model, Sends};
 
-// The most copies in use.
-pub(crate) const COPIES: u32 = 128;
-
 // So many messages are taken in turn, and each makes an entry.
 fn take_heads<C: Calendar>(calendar: &mut C, journal: &mut Journal, count: usize)
     requires entries { length journal.old + count ≤ 2048 }
@@ -112,13 +109,7 @@ impl<C: Calendar, M: Model> Study<C, M> {
             return Err(StudyFault::Entries);
         }
         let receiver = self.heads.first().map_or(0, |h| h.message.receiver);
-        let copies = self.copies.groups_stepped(
-            self.register.live,
-            self.model.places(),
-            &self.heads,
-            receiver,
-        );
-        if copies > COPIES {
+        if !self.fits_stepped(receiver) {
             return Err(StudyFault::Copies);
         }
         Ok(())
