@@ -1,4 +1,5 @@
 pub mod Calendars
 pub mod Models
-pub mod Calls
-pub mod Sessions
+pub mod Asking
+pub mod Saying
+pub mod Talks

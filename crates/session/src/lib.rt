@@ -1,12 +1,14 @@
-// A session: the study that a script's commands go to, over either calendar and of either model, and what they answer.
+// Between a script and a study: what a command asks for, what is said in answer, and a calendar and a model of either kind.
 #![tactic(auto)]
 
 mod any_calendar;
 mod any_model;
-mod call;
-mod holder;
+mod asking;
+mod saying;
+mod talk;
 
 pub use any_calendar::AnyCalendar;
 pub use any_model::AnyModel;
-pub use call::{Call, ask};
-pub use holder::Session;
+pub use asking::call_of;
+pub use saying::line_of;
+pub use talk::Talk;
