@@ -6,7 +6,7 @@ use Rattle.dayfile.specs.declared.plan.Plan.{Plan}
 use Rattle.dayfile.specs.Plans.{Sheet}
 
 abbrev pub sheet_of : Plan → Sheet
-sheet_of p = record { farms = p.farms; tankers = p.tankers; end = p.end; milkings = vec_items p.milkings }
+sheet_of p = record { farms = p.farms; tankers = p.tankers; end = p.end; milkings = vec_items p.milkings; choices = vec_items p.choices }
 
 -- an answer by what its plan says
 abbrev pub answer : Result Plan Flaw → Result Sheet Flaw

@@ -1,4 +1,4 @@
--- What a line says: nothing, a setting of the day, or a milking.
+-- What a line says: nothing, a setting of the day, a milking, or a choice.
 use Rattle.std.specs.Prelude.{ℕ, if◌then◌else◌, List, [], ◌∷◌, Some, None, Ok, Err, codes, Option, Result}
 use Rattle.std.specs.Str.{bytes_eq}
 use Rattle.event.specs.declared.Start.{Start}
@@ -7,13 +7,13 @@ use Rattle.text.specs.declared.flaw.WordFlaw.TheVariants.{TooFewWords, TooManyWo
 use Rattle.text.specs.Numbers.{number_of}
 use Rattle.text.specs.Reading.{and_then, next, ended}
 use Rattle.dayfile.specs.declared.flaw.FlawKind.{FlawKind}
-use Rattle.dayfile.specs.declared.flaw.FlawKind.TheVariants.{Word, AtMissing, GivenTwice, MilkedBeforeFarms}
+use Rattle.dayfile.specs.declared.flaw.FlawKind.TheVariants.{Word, AtMissing, EventsMissing, TryMissing, GivenTwice, MilkedBeforeFarms}
 use Rattle.dayfile.specs.declared.line.Settings.{Settings}
 use Rattle.dayfile.specs.declared.line.Entry.{Entry}
 use Rattle.dayfile.specs.declared.line.Entry.TheVariants as entry
 use Rattle.dayfile.specs.declared.word.Keyword.{Keyword}
 use Rattle.dayfile.specs.declared.word.Keyword.TheVariants as key
-use Rattle.dayfile.specs.Words.{keyword_of}
+use Rattle.dayfile.specs.Words.{keyword_of, preference_of}
 
 -- a flaw of a word is one of the file
 abbrev pub worded : {X : Type 0} → Result X WordFlaw → Result X FlawKind
@@ -24,9 +24,13 @@ worded (Err flaw) = Err (Word flaw)
 abbrev pub numbered : {Y : Type 0} → ℕ → ℕ → List (List ℕ) → (ℕ → List (List ℕ) → Result Y FlawKind) → Result Y FlawKind
 numbered low high ws more = next (Word TooFewWords) (λ w. worded (number_of low high w)) ws more
 
--- the word "at"
-abbrev pub at_word : List ℕ → Result (List ℕ) FlawKind
-at_word w = if bytes_eq w (codes "at") then Ok w else Err AtMissing
+-- a word that has to be the wanted one
+abbrev pub the_word : List ℕ → FlawKind → List ℕ → Result Unit FlawKind
+the_word wanted missing w = if bytes_eq w wanted then Ok tt else Err missing
+
+-- the wanted word, and more by the words after it
+abbrev pub behind_word : {Y : Type 0} → List ℕ → FlawKind → List (List ℕ) → (List (List ℕ) → Result Y FlawKind) → Result Y FlawKind
+behind_word wanted missing ws more = next (Word TooFewWords) (the_word wanted missing) ws (λ _ ws. more ws)
 
 -- one number up to high, and nothing more
 abbrev pub only_number_of : ℕ → List (List ℕ) → Result ℕ FlawKind
@@ -34,7 +38,7 @@ only_number_of high ws = numbered 0 high ws (ended (Word TooManyWords))
 
 -- at TIME
 abbrev pub moment_of : List (List ℕ) → Result ℕ FlawKind
-moment_of ws = next (Word TooFewWords) at_word ws (λ _ ws. only_number_of 4294967295 ws)
+moment_of ws = behind_word (codes "at") AtMissing ws (only_number_of 4294967295)
 
 -- FARM LITRES at TIME
 abbrev pub milking_of : ℕ → List (List ℕ) → Result Start FlawKind
@@ -42,6 +46,15 @@ milking_of farms ws =
     numbered 1 farms ws (λ farm ws.
     numbered 0 4294967295 ws (λ litres ws.
     and_then (moment_of ws) (λ time. Ok (record { time = time; receiver = farm; kind = 0; «data» = litres }))))
+
+-- N events try WORD
+abbrev pub choice_of : List (List ℕ) → Result Entry FlawKind
+choice_of ws =
+    numbered 0 4294967295 ws (λ events ws.
+    behind_word (codes "events") EventsMissing ws (λ ws.
+    behind_word (codes "try") TryMissing ws (λ ws.
+    next (Word TooFewWords) preference_of ws (λ preference ws.
+    ended (Word TooManyWords) (entry.After events preference) ws))))
 
 -- what was given before is given twice
 abbrev pub once : {T X : Type 0} → Option T → Result X FlawKind → Result X FlawKind
@@ -71,6 +84,7 @@ entry_for s key.Farms ws = and_then (farms_set s ws) (λ t. Ok (entry.Set t))
 entry_for s key.Tankers ws = and_then (tankers_set s ws) (λ t. Ok (entry.Set t))
 entry_for s key.End ws = and_then (end_set s ws) (λ t. Ok (entry.Set t))
 entry_for s key.Milked ws = and_then (milked_by s.farms ws) (λ m. Ok (entry.Milked m))
+entry_for s key.After ws = choice_of ws
 
 -- what the words of a line say, if anything, where the lines before it have set s
 abbrev pub entry_of : Settings → List (List ℕ) → Result (Option Entry) FlawKind

@@ -8,23 +8,26 @@
 --     end 3000
 --     milked 2 1000 at 0        # farm, litres, second of the day
 --     milked 1 500 at 5
+--     after 7 events try farthest
 --
 -- Text: a line ends at a newline, which the last may lack. '#' begins a comment that goes on to the end of the line.
 -- Words stand between blanks, which are spaces, tabs and carriage returns.
 -- Words: a number is one or more decimal digits and nothing else. It goes up to 255 (8 bits) for farms and tankers, up to
--- 4294967295 (32 bits) for the end, litres and times, and from 1 to the file's farms for a farm.
--- Lines: a line with no word says nothing. Any other is `farms N`, `tankers N`, `end N` or `milked FARM LITRES at TIME`.
--- Plans: farms, tankers and end are given once each, in any sequence, and farms before the first milking. Milkings are any
--- number. A flaw is the first in the sequence of the text and is told with its line, from 1; what is missing is told at
--- the line after the last, farms first, then tankers, then end.
+-- 4294967295 (32 bits) for the end, litres, times and events, and from 1 to the file's farms for a farm.
+-- Lines: a line with no word says nothing. Any other is `farms N`, `tankers N`, `end N`, `milked FARM LITRES at TIME` or
+-- `after N events try WORD`, where the word is nearest, farthest or smallest.
+-- Plans: farms, tankers and end are given once each, in any sequence, and farms before the first milking. Milkings and
+-- choices are any number, and a choice stands anywhere. A flaw is the first in the sequence of the text and is told with
+-- its line, from 1; what is missing is told at the line after the last, farms first, then tankers, then end.
 use Rattle.std.specs.Prelude.{ℕ, ◌+◌, List, [], ◌∷◌, ◌++◌, Some, None, Ok, Err, Option, Result}
 use Rattle.dayfile.specs.declared.flaw.Flaw.{Flaw}
 use Rattle.dayfile.specs.declared.flaw.FlawKind.{FlawKind}
 use Rattle.dayfile.specs.declared.flaw.FlawKind.TheVariants.{FarmsMissing, TankersMissing, EndMissing}
 use Rattle.dayfile.specs.declared.line.Settings.{Settings}
 use Rattle.dayfile.specs.declared.line.Entry.{Entry}
-use Rattle.dayfile.specs.declared.line.Entry.TheVariants.{Set, Milked}
+use Rattle.dayfile.specs.declared.line.Entry.TheVariants.{Set, Milked, After}
 use Rattle.dayfile.specs.declared.plan.Milking.{Milking}
+use Rattle.dayfile.specs.declared.plan.Choice.{Choice}
 use Rattle.text.specs.Text.{lines_of, said, words_of}
 use Rattle.text.specs.Reading.{and_then}
 use Rattle.dayfile.specs.Lines.{entry_of}
@@ -35,6 +38,7 @@ pub record Told : Type 0 where
   pub line : ℕ
   pub settings : Settings
   pub milkings : List Milking
+  pub choices : List Choice
 
 -- what a plan says
 pub record Sheet : Type 0 where
@@ -42,16 +46,18 @@ pub record Sheet : Type 0 where
   pub tankers : ℕ
   pub end : ℕ
   pub milkings : List Milking
+  pub choices : List Choice
 
 -- before the first line
 abbrev pub nothing_told : Told
-nothing_told = record { line = 1; settings = record { farms = None; tankers = None; end = None }; milkings = [] }
+nothing_told = record { line = 1; settings = record { farms = None; tankers = None; end = None }; milkings = []; choices = [] }
 
--- with what the next line says, if anything: a milking goes behind those before it
+-- with what the next line says, if anything: a milking goes behind those before it, and so does a choice
 abbrev pub noted : Told → Option Entry → Told
-noted t None = record { line = t.line + 1; settings = t.settings; milkings = t.milkings }
-noted t (Some (Set s)) = record { line = t.line + 1; settings = s; milkings = t.milkings }
-noted t (Some (Milked m)) = record { line = t.line + 1; settings = t.settings; milkings = t.milkings ++ record { line = t.line; start = m } ∷ [] }
+noted t None = record { line = t.line + 1; settings = t.settings; milkings = t.milkings; choices = t.choices }
+noted t (Some (Set s)) = record { line = t.line + 1; settings = s; milkings = t.milkings; choices = t.choices }
+noted t (Some (Milked m)) = record { line = t.line + 1; settings = t.settings; milkings = t.milkings ++ record { line = t.line; start = m } ∷ []; choices = t.choices }
+noted t (Some (After n p)) = record { line = t.line + 1; settings = t.settings; milkings = t.milkings; choices = t.choices ++ record { line = t.line; events = n; preference = p } ∷ [] }
 
 -- a flaw is told with its line
 abbrev pub at_line : {X : Type 0} → ℕ → Result X FlawKind → Result X Flaw
@@ -74,7 +80,7 @@ finished t =
     (and_then (needed FarmsMissing t.settings.farms) (λ farms.
     and_then (needed TankersMissing t.settings.tankers) (λ tankers.
     and_then (needed EndMissing t.settings.end) (λ end.
-    Ok (record { farms = farms; tankers = tankers; end = end; milkings = t.milkings })))))
+    Ok (record { farms = farms; tankers = tankers; end = end; milkings = t.milkings; choices = t.choices })))))
 
 -- the lines from the next on, after what was told before
 abbrev pub read_on : Told → List (List ℕ) → Result Sheet Flaw

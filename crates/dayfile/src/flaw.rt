@@ -9,12 +9,18 @@ use text::WordFlaw;
 
 #[derive(Clone, Copy, PartialEq, Eq, Debug)]
 pub enum FlawKind {
-    // a line begins with none of the four words
+    // a line begins with none of the five words
     UnknownWord,
     // the words of a line are too few or too many, or a number is none or out of its range
     Word(WordFlaw),
     // another word stands between litres and time
     AtMissing,
+    // another word stands behind the number of events
+    EventsMissing,
+    // another word stands behind "events"
+    TryMissing,
+    // the farm to try is none that a word names
+    UnknownPreference,
     GivenTwice,
     MilkedBeforeFarms,
     // the missing are told at the line after the last
@@ -53,9 +59,14 @@ impl FlawKind {
         ensures { result.now ≡ wording self }
     {
         match self {
-            FlawKind::UnknownWord => "the first word is none of farms, tankers, end and milked",
+            FlawKind::UnknownWord =>
+                "the first word is none of farms, tankers, end, milked and after",
             FlawKind::Word(flaw) => flaw.words(),
             FlawKind::AtMissing => "\"at\" is missing between litres and time",
+            FlawKind::EventsMissing => "\"events\" is missing behind the number",
+            FlawKind::TryMissing => "\"try\" is missing behind events",
+            FlawKind::UnknownPreference =>
+                "the farm to try is none of nearest, farthest and smallest",
             FlawKind::GivenTwice => "this was given on an earlier line",
             FlawKind::MilkedBeforeFarms => "farms has to be given before the first milked",
             FlawKind::FarmsMissing => "farms is missing",

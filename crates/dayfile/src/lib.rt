@@ -5,6 +5,7 @@
 //     tankers 1
 //     end 3000
 //     milked 2 1000 at 0        # farm, litres, second of the day
+//     after 7 events try farthest
 //
 // specs/Plans.antt has the whole format. Limits of the model and of the day are theirs to refuse.
 #![tactic(auto)]
@@ -15,11 +16,12 @@ mod plan;
 mod word;
 
 pub use flaw::{Flaw, FlawKind};
-pub use plan::{Milking, Plan, read};
+pub use plan::{Choice, Milking, Plan, read};
 
 #[cfg(test)]
 mod tests {
     use super::*;
+    use collection::Preference;
     use event::Start;
     use std::alloc::Global;
     use std::test::Fail;
@@ -82,6 +84,47 @@ mod tests {
         Ok(())
     }
 
+    fn choice(line: usize, events: u32, preference: Preference) -> Choice {
+        Choice {
+            line,
+            events,
+            preference,
+        }
+    }
+
+    #[test]
+    fn choices_stand_anywhere_and_keep_their_sequence(rt: HostRuntime) -> Result<(), Fail> {
+        let text =
+            "after 7 events try farthest\nfarms 1 # one\nafter 0 events try smallest\ntankers 1\nmilked 1 500 at 5\nafter 4294967295\tevents try nearest\nend 90\nmilked 1 20 at 6\nafter 7 events try smallest # once more";
+        let plan = read(rt.alloc(), text.as_bytes())?;
+        assert_eq!(rt;
+            plan.choices.as_slice(),
+            [
+                choice(1, 7, Preference::Farthest),
+                choice(3, 0, Preference::Smallest),
+                choice(6, 4294967295, Preference::Nearest),
+                choice(9, 7, Preference::Smallest),
+            ]
+            .as_slice()
+        );
+        assert_eq!(rt; (plan.farms, plan.tankers, plan.end), (1, 1, 90));
+        assert_eq!(rt;
+            plan.milkings.as_slice(),
+            [
+                Milking {
+                    line: 5,
+                    start: milk(5, 1, 500)
+                },
+                Milking {
+                    line: 8,
+                    start: milk(6, 1, 20)
+                },
+            ]
+            .as_slice()
+        );
+        Ok(())
+    }
+
     fn flaw_of(heap: Global, text: &str) -> Option<Flaw> {
         read(heap, text.as_bytes()).err()
     }
@@ -121,6 +164,54 @@ mod tests {
                 2,
                 FlawKind::Word(WordFlaw::TooFewWords),
             ),
+        ];
+        for (text, line, kind) in table {
+            assert_eq!(rt;
+                flaw_of(rt.alloc(), text),
+                Some(Flaw { line, kind }),
+                "{}",
+                text
+            );
+        }
+    }
+
+    #[test]
+    fn the_first_flaw_of_a_choice_is_told_with_its_line(rt: HostRuntime) {
+        let table = [
+            ("after", 1, FlawKind::Word(WordFlaw::TooFewWords)),
+            (
+                "\nafter ten events try nearest",
+                2,
+                FlawKind::Word(WordFlaw::NotANumber),
+            ),
+            (
+                "after 4294967296 events try nearest",
+                1,
+                FlawKind::Word(WordFlaw::OutOfRange),
+            ),
+            ("after 7", 1, FlawKind::Word(WordFlaw::TooFewWords)),
+            ("farms 3\nafter 7 try nearest", 2, FlawKind::EventsMissing),
+            ("after 7 event try nearest", 1, FlawKind::EventsMissing),
+            ("after 7 events", 1, FlawKind::Word(WordFlaw::TooFewWords)),
+            ("# no\n\nafter 7 events nearest", 3, FlawKind::TryMissing),
+            (
+                "after 7 events try",
+                1,
+                FlawKind::Word(WordFlaw::TooFewWords),
+            ),
+            (
+                "farms 3\nafter 7 events try longest",
+                2,
+                FlawKind::UnknownPreference,
+            ),
+            ("after 7 events try Nearest", 1, FlawKind::UnknownPreference),
+            (
+                "after 7 events try nearest farm",
+                1,
+                FlawKind::Word(WordFlaw::TooManyWords),
+            ),
+            ("After 7 events try nearest", 1, FlawKind::UnknownWord),
+            ("after 7 events try nearest", 2, FlawKind::FarmsMissing),
         ];
         for (text, line, kind) in table {
             assert_eq!(rt;

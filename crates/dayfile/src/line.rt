@@ -1,12 +1,14 @@
-// What a line says: nothing, a setting of the day, or a milking.
+// What a line says: nothing, a setting of the day, a milking, or a choice.
 ghost use Rattle.std.specs.Prelude.{◌≡◌, ◌≤◌, IfOk};
 ghost use Rattle.text.specs.Text.{said, words_of};
-ghost use Rattle.text.specs.Reading.{paired, behind};
-ghost use Rattle.dayfile.specs.Lines.{numbered, only_number_of, moment_of, milking_of, once, entry_for, entry_of};
+ghost use Rattle.dayfile.specs.declared.flaw.FlawKind.TheVariants.{Word};
+ghost use Rattle.text.specs.declared.flaw.WordFlaw.TheVariants.{TooFewWords};
+ghost use Rattle.text.specs.Reading.{next, paired, behind};
+ghost use Rattle.dayfile.specs.Lines.{numbered, the_word, only_number_of, moment_of, milking_of, choice_of, once, entry_for, entry_of};
 
 use crate::flaw::FlawKind;
-use crate::word::Keyword;
-use collection::Kind;
+use crate::word::{Keyword, preference};
+use collection::{Kind, Preference};
 use event::Start;
 use text::{WordFlaw, Words};
 
@@ -24,6 +26,7 @@ pub(crate) enum Entry {
     // with what it sets
     Set(Settings),
     Milked(Start),
+    After { events: u32, preference: Preference },
 }
 
 // The next word as a number from `low` to `high`.
@@ -32,6 +35,17 @@ fn next_number(words: &mut Words, low: u32, high: u32) -> Result<u32, FlawKind>
     ensures within { IfOk result (λ n. n ≤ high) }
 {
     Ok(words.number(low, high)?)
+}
+
+// The next word, which has to be this one.
+fn expect(words: &mut Words, wanted: &[u8], missing: FlawKind) -> Result<(), FlawKind>
+    ensures { behind result words.new ≡ next (Word TooFewWords) (the_word wanted.now missing) words.old paired }
+{
+    let word = words.next().ok_or(WordFlaw::TooFewWords)?;
+    if word != wanted {
+        return Err(missing);
+    }
+    Ok(())
 }
 
 // One number up to `high`, and nothing more.
@@ -47,10 +61,7 @@ fn only_number(mut words: Words, high: u32) -> Result<u32, FlawKind>
 fn moment(mut words: Words) -> Result<u32, FlawKind>
     ensures { result ≡ moment_of words.entry }
 {
-    let word = words.next().ok_or(WordFlaw::TooFewWords)?;
-    if word != b"at".as_slice() {
-        return Err(FlawKind::AtMissing);
-    }
+    expect(&mut words, b"at", FlawKind::AtMissing)?;
     only_number(words, u32::MAX)
 }
 
@@ -68,6 +79,18 @@ fn milking(mut words: Words, farms: u8) -> Result<Start, FlawKind>
         kind: Kind::Milked.into(),
         data: litres,
     })
+}
+
+// The events after which a preference is tried, and nothing more.
+fn choice(mut words: Words) -> Result<Entry, FlawKind>
+    ensures { result ≡ choice_of words.entry }
+{
+    let events = next_number(&mut words, 0, u32::MAX)?;
+    expect(&mut words, b"events", FlawKind::EventsMissing)?;
+    expect(&mut words, b"try", FlawKind::TryMissing)?;
+    let word = words.next().ok_or(WordFlaw::TooFewWords)?;
+    let preference = preference(word)?;
+    Ok(words.end(Entry::After { events, preference })?)
 }
 
 // The number up to `high` of what is given once, where `before` was given before.
@@ -113,6 +136,7 @@ impl Settings {
                 let farms = self.farms.ok_or(FlawKind::MilkedBeforeFarms)?;
                 Ok(Entry::Milked(milking(words, farms)?))
             }
+            Keyword::After => choice(words),
         }
     }
 

@@ -1,5 +1,5 @@
 // The plan of a day, as its file tells it line by line.
-ghost use Rattle.std.specs.Prelude.{◌≡◌, ◌+◌, ◌<◌, ◌^◌, ◌⊎◌, IfOk, Ok, Err, MatchResult, OnOk, map, vec_items};
+ghost use Rattle.std.specs.Prelude.{◌≡◌, ◌+◌, ◌<◌, ◌^◌, ◌⊎◌, ℕ, List, IfOk, Ok, Err, MatchResult, OnOk, map, vec_items};
 ghost use Rattle.dayfile.specs.Held.{sheet_of, answer, Memory, OutOfMemory};
 ghost use Rattle.dayfile.specs.Laws.{Sound};
 ghost use Rattle.dayfile.specs.Plans.{Sheet, noted, nothing_told, step, finished, read_text};
@@ -7,6 +7,7 @@ ghost use Rattle.dayfile.specs.Written.{Writable, written};
 
 use crate::flaw::{Flaw, FlawKind};
 use crate::line::{Entry, Settings};
+use collection::Preference;
 use event::Start;
 use std::alloc::{AllocError, Global};
 use std::marker::Model;
@@ -19,13 +20,22 @@ pub struct Milking {
     pub start: Start,
 }
 
-// A collection day: how many farms and tankers, the end of day, and the milkings in the sequence of the file.
+// A choice of the day: the line of the file that gives it, and the preference of a variant that is branched from variant 0 once that has run so many events.
+#[derive(Clone, Copy, PartialEq, Eq, Debug)]
+pub struct Choice {
+    pub line: usize,
+    pub events: u32,
+    pub preference: Preference,
+}
+
+// A collection day: how many farms and tankers, the end of day, and the milkings and the choices in the sequence of the file.
 #[derive(Drop)]
 pub struct Plan {
     pub farms: u8,
     pub tankers: u8,
     pub end: u32,
     pub milkings: Vec<Milking>,
+    pub choices: Vec<Choice>,
 }
 
 impl Plan {
@@ -47,6 +57,7 @@ struct Draft {
     line: usize,
     settings: Settings,
     milkings: Vec<Milking>,
+    choices: Vec<Choice>,
 }
 
 impl Model for Draft {
@@ -55,7 +66,7 @@ impl Model for Draft {
 
     ghost Value = { Told };
 
-    ghost view = { λ a. record { line = a.line; settings = a.settings; milkings = vec_items a.milkings } };
+    ghost view = { λ a. record { line = a.line; settings = a.settings; milkings = vec_items a.milkings; choices = vec_items a.choices } };
 }
 
 impl Draft {
@@ -66,6 +77,7 @@ impl Draft {
             line: 1,
             settings: Settings::default(),
             milkings: Vec::new(heap),
+            choices: Vec::new(heap),
         }
     }
 
@@ -74,12 +86,15 @@ impl Draft {
         requires { self.old.line + 1 < 2 ^ 64 }
         ensures { OnOk result (self.new ≡ noted self.old entry) }
     {
+        let line = self.line;
         match entry {
             None => {}
             Some(Entry::Set(settings)) => self.settings = settings,
-            Some(Entry::Milked(start)) => self.milkings.push(Milking {
-                line: self.line,
-                start,
+            Some(Entry::Milked(start)) => self.milkings.push(Milking { line, start })?,
+            Some(Entry::After { events, preference }) => self.choices.push(Choice {
+                line,
+                events,
+                preference,
             })?,
         }
         self.line += 1;
@@ -109,16 +124,17 @@ impl Draft {
             tankers,
             end,
             milkings: self.milkings,
+            choices: self.choices,
         })
     }
 }
 
 // The plan that a day file tells, or its first flaw; in place of either, want of memory.
-// A plan that is written out as a text is read back from it.
+// A plan that is written out as a text, its milkings and choices mixed in any way, is read back from it.
 pub fn read(heap: Global, text: &[u8]) -> Result<Plan, Flaw>
     ensures value { OutOfMemory result ⊎ (answer result ≡ read_text text.now) }
     ensures sound { IfOk result (λ p. Sound (sheet_of p)) }
-    ensures back { (s : Sheet) → Writable s → text.now ≡ written s → OutOfMemory result ⊎ (answer result ≡ Ok s) }
+    ensures back { (s : Sheet) (ls : List (List (List ℕ))) → Writable s ls → text.now ≡ written s ls → OutOfMemory result ⊎ (answer result ≡ Ok s) }
 {
     let mut draft = Draft::new(heap);
     for line in Lines::of(text) {

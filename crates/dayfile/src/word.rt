@@ -1,8 +1,9 @@
-// The word that begins a line.
+// The word that begins a line, and the word that names the farm to try.
 ghost use Rattle.std.specs.Prelude.{◌≡◌};
-ghost use Rattle.dayfile.specs.Words.{keyword_of};
+ghost use Rattle.dayfile.specs.Words.{keyword_of, preference_of};
 
 use crate::flaw::FlawKind;
+use collection::Preference;
 use std::str;
 
 #[derive(Clone, Copy)]
@@ -11,6 +12,7 @@ pub(crate) enum Keyword {
     Tankers,
     End,
     Milked,
+    After,
 }
 
 impl TryFrom<&[u8]> for Keyword {
@@ -25,7 +27,21 @@ impl TryFrom<&[u8]> for Keyword {
             "tankers" => Ok(Keyword::Tankers),
             "end" => Ok(Keyword::End),
             "milked" => Ok(Keyword::Milked),
+            "after" => Ok(Keyword::After),
             _ => Err(FlawKind::UnknownWord),
         }
+    }
+}
+
+// The preference that a word names.
+pub(crate) fn preference(word: &[u8]) -> Result<Preference, FlawKind>
+    ensures { result ≡ preference_of word.now }
+{
+    let text = str::from_utf8(word).map_err(|_| FlawKind::UnknownPreference)?;
+    match text {
+        "nearest" => Ok(Preference::Nearest),
+        "farthest" => Ok(Preference::Farthest),
+        "smallest" => Ok(Preference::Smallest),
+        _ => Err(FlawKind::UnknownPreference),
     }
 }
