@@ -1,5 +1,6 @@
 -- The words for what happened.
-use Rattle.std.specs.Prelude.{ℕ, ◌/◌, ◌%◌, List, ◌++◌, Some, None, codes, decimal, Option}
+use Rattle.std.specs.Prelude.{ℕ, ◌-◌, ◌/◌, ◌%◌, List, ◌++◌, length, Some, None, codes, decimal, Option}
+use Rattle.std.specs.List.{repeat}
 use Rattle.report.specs.declared.deed.Deed.{Deed}
 use Rattle.report.specs.declared.deed.Deed.TheVariants.{Milked, Waits, SentOut, Free, Drives, Pumps, Leaves, Unloads, Emptied, Ignores}
 use Rattle.report.specs.declared.figures.Fact.{Fact}
@@ -47,13 +48,18 @@ abbrev pub unloading_words : Option ℕ → List ℕ
 unloading_words None = codes "none"
 unloading_words (Some time) = moment_words time
 
+-- a number, and spaces up to so many characters
+abbrev pub in_column : ℕ → ℕ → List ℕ
+in_column width n = decimal n ++ repeat (width - length (decimal n)) (codes " ")
+
+-- what it is, in twenty characters, and the figure
 abbrev pub fact_words : Fact → List ℕ
-fact_words (Received l) = codes "litres received: " ++ decimal l
-fact_words (Left i l) = codes "litres left at farm " ++ (decimal i ++ (codes ": " ++ decimal l))
-fact_words (NotVisited i) = codes "not visited: farm " ++ decimal i
-fact_words (LastUnloading o) = codes "last unloading: " ++ unloading_words o
-fact_words (Events n) = codes "events run: " ++ decimal n
-fact_words (Lost n) = codes "messages lost after the end: " ++ decimal n
+fact_words (Received l) = codes "litres received     " ++ decimal l
+fact_words (Left i l) = codes "left at farm " ++ (in_column 7 i ++ decimal l)
+fact_words (NotVisited i) = codes "not visited         farm " ++ decimal i
+fact_words (LastUnloading o) = codes "last unloading      " ++ unloading_words o
+fact_words (Events n) = codes "events run          " ++ decimal n
+fact_words (Lost n) = codes "lost after the end  " ++ decimal n
 
 -- the day at a glance
 abbrev pub heading_words : ℕ → ℕ → ℕ → List ℕ

@@ -33,7 +33,7 @@ pub enum Deed {
 
 impl Who {
     // Who the place of this number is.
-    fn at(model: &Collection, place: u8) -> Who
+    pub fn at(model: &Collection, place: u8) -> Who
         ensures { result ≡ who_of model.now.farms model.now.tankers place }
     {
         let farms = model.farms();

@@ -10,5 +10,5 @@ mod words;
 pub use deed::{Deed, Who};
 pub use ended::Ended;
 pub use figures::{Fact, summary};
-pub use verdict::Verdict;
+pub use verdict::{Verdict, same_events};
 pub use words::{Clock, Heading, Line, Moment};

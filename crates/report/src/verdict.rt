@@ -42,7 +42,7 @@ fn is_same_event(ran: &[Message], alone: &[Message], i: usize) -> bool
 }
 
 // How many events are the same in both, up to one that is not or to the end of the first.
-fn same_events(ran: &[Message], alone: &[Message]) -> usize
+pub fn same_events(ran: &[Message], alone: &[Message]) -> usize
     ensures { PartAfter ran.now alone.now result }
 {
     for i in 0..ran.len() {

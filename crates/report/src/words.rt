@@ -120,20 +120,21 @@ impl fmt::Display for Unloading {
     }
 }
 
+// What it is, in twenty characters, and the figure.
 impl fmt::Display for Fact {
     ghost output = { λ x. Some (fact_words x) };
 
     fn fmt<W: fmt::Write>(&self, f: &mut fmt::Formatter<W>) -> fmt::Result {
         match self {
-            Fact::Received(litres) => write!(f, "litres received: {litres}"),
-            Fact::Left { farm, litres } => write!(f, "litres left at farm {farm}: {litres}"),
-            Fact::NotVisited { farm } => write!(f, "not visited: farm {farm}"),
+            Fact::Received(litres) => write!(f, "litres received     {litres}"),
+            Fact::Left { farm, litres } => write!(f, "left at farm {farm:<7}{litres}"),
+            Fact::NotVisited { farm } => write!(f, "not visited         farm {farm}"),
             Fact::LastUnloading(last) => {
                 let unloading = Unloading(*last);
-                write!(f, "last unloading: {unloading}")
+                write!(f, "last unloading      {unloading}")
             }
-            Fact::Events(n) => write!(f, "events run: {n}"),
-            Fact::Lost(n) => write!(f, "messages lost after the end: {n}"),
+            Fact::Events(n) => write!(f, "events run          {n}"),
+            Fact::Lost(n) => write!(f, "lost after the end  {n}"),
         }
     }
 }

@@ -1,0 +1,4 @@
+pub mod Differences
+pub mod Rows
+pub mod Standings
+pub mod Words
