@@ -1,2 +1,5 @@
+pub mod Courses
+pub mod Leasts
 pub mod Position
 pub mod Readings
+pub mod Trials

@@ -4,7 +4,7 @@ ghost use Rattle.dispatch.specs.Position.{position_of};
 
 use anyhow::anyhow;
 use day::DayFault;
-use dayfile::Plan;
+use dayfile::{Choice, Plan};
 use model::ModelFault;
 use refusal::Refusal;
 use std::alloc::Global;
@@ -20,18 +20,28 @@ fn position(fault: StudyFault) -> Option<u32>
     }
 }
 
-// Why the day is refused, with the line of the file where one is to blame.
-pub(crate) fn refused(heap: Global, plan: &Plan, fault: StudyFault) -> anyhow::Error {
+// Why a call is refused, with the line of the file where one is to blame.
+fn told(heap: Global, line: Option<usize>, fault: StudyFault) -> anyhow::Error {
     let number = Refusal::from(fault).number;
-    let milking = position(fault).and_then(|i| plan.milkings.get(i as usize));
-    let told = match milking {
-        Some(milking) => format!(in heap; "line {}: refused {number}: {fault}", milking.line),
+    let told = match line {
+        Some(line) => format!(in heap; "line {line}: refused {number}: {fault}"),
         None => format!(in heap; "refused {number}: {fault}"),
     };
     match told {
         Ok(text) => anyhow!(text),
         Err(_) => fault.into(),
     }
+}
+
+// Why the day is refused, with the line of the milking where one is to blame.
+pub(crate) fn refused(heap: Global, plan: &Plan, fault: StudyFault) -> anyhow::Error {
+    let milking = position(fault).and_then(|i| plan.milkings.get(i as usize));
+    told(heap, milking.map(|milking| milking.line), fault)
+}
+
+// Why a choice is refused.
+pub(crate) fn choice_refused(heap: Global, choice: &Choice, fault: StudyFault) -> anyhow::Error {
+    told(heap, Some(choice.line), fault)
 }
 
 // Why the day alone is refused.
