@@ -1,0 +1,2 @@
+mod Service
+mod Listed
