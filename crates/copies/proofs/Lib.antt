@@ -1,4 +1,9 @@
 pub mod Rows
+pub mod Marks
+pub mod Leads
+pub mod Members
 pub mod Numbers
 pub mod Groups
 pub mod Firsts
+pub mod Wholes
+pub mod Same

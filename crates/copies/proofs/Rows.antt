@@ -1,11 +1,12 @@
 -- What a change of a table of names makes of the cells.
-use Rattle.std.proofs.Common.{◌≡◌, ℕ, ◌+◌, ◌*◌, ◌%◌, ◌<◌, ◌≤◌, true, false, cond, ◌&&◌, ltb, List, length, get_or, sym, ap, ◌∙◌, ◌⊎◌, inl, inr, ⊎_elim, arith}
-use Rattle.std.proofs.lemmas.Bool.{cases_eq, cases_lt, cases_Bool, eq-eqb, ne_eqb, and_parts, and_right, cond-true, cond-false, ltb-true, lt-ltb}
+use Rattle.std.proofs.Common.{◌≡◌, ℕ, ◌+◌, ◌*◌, ◌/◌, ◌<◌, ◌≤◌, true, false, cond, eqb, ◌&&◌, ltb, List, length, get_or, get_or-set_other, slice_set, refl, sym, ap, ◌∙◌, ◌⊎◌, inl, inr, ⊎_elim, arith}
+use Rattle.std.proofs.lemmas.Bool.{cases_lt, cases_Bool, and_parts, and_right, cond-true, cond-false, ltb-true, lt-ltb}
+use Rattle.std.proofs.lemmas.Bool.Decides.{nat_tests}
 use Rattle.std.proofs.lemmas.List.{get_or_past}
 use Rattle.group.specs.declared.Group.{Group}
 use Rattle.group.specs.Groups.{has}
 use Rattle.group.proofs.Members.{has_above}
-use Rattle.copies.specs.Rows.{cell_at}
+use Rattle.copies.specs.Rows.{Whole, cell_at}
 use Rattle.copies.specs.Sharing.{copy_cells}
 use Rattle.copies.specs.Starts.{starting_cell}
 
@@ -20,45 +21,44 @@ below_all g n w h = ⊎_elim
     (λ (e : ltb w 16 ≡ false). and_right (ltb w n) (has g w) (has_above g w e) ∙ sym (has_above g w e)) (cases_Bool (ltb w 16))
 
 -- the number of a place is below 32
-pub begun_inside : (rows : List ℕ) → ((i : ℕ) → i < 512 → get_or rows i 0 ≡ i % 32) → length rows ≡ 512 → (i : ℕ) → get_or rows i 0 < 128
+pub begun_inside : (rows : List ℕ) → ((i : ℕ) → i < 512 → get_or rows i 0 ≡ i / 16) → length rows ≡ 512 → (i : ℕ) → get_or rows i 0 < 128
 begun_inside rows h l i = ⊎_elim (λ (m : i < 512). omega (arith, h i m)) (λ (m : 512 ≤ i). omega (arith, get_or_past rows i 0 (omega arith))) (cases_lt i 512)
 
 -- each variant has the cell p at the place p
-pub begun_cells : (rows : List ℕ) → ((i : ℕ) → i < 512 → get_or rows i 0 ≡ i % 32) → cell_at rows ≡ starting_cell
+pub begun_cells : (rows : List ℕ) → ((i : ℕ) → i < 512 → get_or rows i 0 ≡ i / 16) → cell_at rows ≡ starting_cell
 begun_cells rows h = same_cells (cell_at rows) starting_cell (λ v p. ⊎_elim
     (λ (e : (ltb v 16 && ltb p 32) ≡ true).
     let b = and_parts (ltb v 16) (ltb p 32) e in
     let m = ltb-true v 16 b.0 in
     let n = ltb-true p 32 b.1 in
-    cond-true _ _ _ e ∙ h (v * 32 + p) (omega arith) ∙ (let z : (v * 32 + p) % 32 ≡ p = omega arith in z) ∙ sym (cond-true _ _ _ e))
+    cond-true _ _ _ e ∙ h (p * 16 + v) (omega arith) ∙ (let z : (p * 16 + v) / 16 ≡ p = omega arith in z) ∙ sym (cond-true _ _ _ e))
     (λ (e : (ltb v 16 && ltb p 32) ≡ false). cond-false _ _ _ e ∙ sym (cond-false _ _ _ e)) (cases_Bool (ltb v 16 && ltb p 32)))
 
--- the child's row is its parent's
-pub copied_cells : (xs ys : List ℕ) (parent child : ℕ) → parent < 16 → child < 16
-    → ((k : ℕ) → k < 32 → get_or ys (child * 32 + k) 0 ≡ get_or xs (parent * 32 + k) 0)
-    → ((k : ℕ) → k < child * 32 → get_or ys k 0 ≡ get_or xs k 0)
-    → ((k : ℕ) → child * 32 + 32 ≤ k → get_or ys k 0 ≡ get_or xs k 0)
-    → cell_at ys ≡ copy_cells (cell_at xs) parent child
-copied_cells xs ys parent child a b at low high = same_cells (cell_at ys) (copy_cells (cell_at xs) parent child) (λ v p. ⊎_elim (own v p) (other v p) (cases_eq v child))
-  where
-    own : (v p : ℕ) → v ≡ child → cell_at ys v p ≡ copy_cells (cell_at xs) parent child v p
-    own v p e =
-        let c : ltb child 16 ≡ true = lt-ltb child 16 b in
-        let d : ltb parent 16 ≡ true = lt-ltb parent 16 a in
-        ap (λ u. cell_at ys u p) e
-        ∙ ap (λ t. cond (t && ltb p 32) (get_or ys (child * 32 + p) 0) 0) c
-        ∙ ⊎_elim (λ (l : ltb p 32 ≡ true). cond-true _ _ _ l ∙ at p (ltb-true p 32 l) ∙ sym (cond-true _ _ _ l)) (λ (l : ltb p 32 ≡ false). cond-false _ _ _ l ∙ sym (cond-false _ _ _ l)) (cases_Bool (ltb p 32))
-        ∙ sym (ap (λ t. cond (t && ltb p 32) (get_or xs (parent * 32 + p) 0) 0) d)
-        ∙ sym (ap (λ u. cell_at xs u p) (cond-true _ _ _ (eq-eqb v child e)))
+-- a place above 31 has the cell 0
+pub cell_past : (rows : List ℕ) (v p : ℕ) → ltb p 32 ≡ false → cell_at rows v p ≡ 0
+cell_past rows v p e = cond-false (ltb v 16 && ltb p 32) _ _ (and_right (ltb v 16) (ltb p 32) e)
 
-    other : (v p : ℕ) → (v ≡ child → ⊥) → cell_at ys v p ≡ copy_cells (cell_at xs) parent child v p
-    other v p ne =
-        ⊎_elim (λ (l : (ltb v 16 && ltb p 32) ≡ true).
-        let m = ltb-true p 32 (and_parts (ltb v 16) (ltb p 32) l).1 in
-        cond-true _ _ _ l ∙ away (v * 32 + p) (⊎_elim (λ (h : v < child). inl (omega arith)) (λ (h : child ≤ v). inr (omega arith)) (cases_lt v child)) ∙ sym (cond-true _ _ _ l))
-        (λ (l : (ltb v 16 && ltb p 32) ≡ false). cond-false _ _ _ l ∙ sym (cond-false _ _ _ l)) (cases_Bool (ltb v 16 && ltb p 32))
-        ∙ sym (ap (λ u. cell_at xs u p) (cond-false _ _ _ (ne_eqb v child ne)))
-      where
-        away : (k : ℕ) → (k < child * 32) ⊎ (child * 32 + 32 ≤ k) → get_or ys k 0 ≡ get_or xs k 0
-        away k (inl h) = low k h
-        away k (inr h) = high k h
+-- the child has its parent's cells, if it has them at all places
+pub copied_cells : (xs ys : List ℕ) (parent child n : ℕ) → 32 ≤ n
+    → ((v p : ℕ) → cell_at ys v p ≡ cond (eqb v child && ltb p n) (cell_at xs parent p) (cell_at xs v p)) → cell_at ys ≡ copy_cells (cell_at xs) parent child
+copied_cells xs ys parent child n m h = same_cells (cell_at ys) (copy_cells (cell_at xs) parent child) (λ v p. h v p ∙ go v p (cases_Bool (eqb v child)) (cases_Bool (ltb p n)))
+  where
+    go : (v p : ℕ) → (eqb v child ≡ true) ⊎ (eqb v child ≡ false) → (ltb p n ≡ true) ⊎ (ltb p n ≡ false) → cond (eqb v child && ltb p n) (cell_at xs parent p) (cell_at xs v p) ≡ cell_at xs (cond (eqb v child) parent v) p
+    go v p (inl e) (inl l) = simp (e, l) refl
+    go v p (inl e) (inr l) = let k : ltb p 32 ≡ false = grind (arith, nat_tests) in cond-false _ _ _ (and_right (eqb v child) (ltb p n) l) ∙ cell_past xs v p k ∙ sym (cell_past xs (cond (eqb v child) parent v) p k)
+    go v p (inr e) l = simp e refl
+
+-- as a study begins, all have one
+pub begun_whole : (rows : List ℕ) → ((i : ℕ) → i < 512 → get_or rows i 0 ≡ i / 16) → (p : ℕ) → p < 32 → Whole rows p
+begun_whole rows h p l v m = h (p * 16 + v) (omega arith) ∙ (let z : (p * 16 + v) / 16 ≡ (p * 16) / 16 = omega arith in z) ∙ sym (h (p * 16) (omega arith))
+
+-- another place stays whole where a cell is changed
+pub whole_set : (rows : List ℕ) (v p q c : ℕ) → v < 16 → (q ≡ p → ⊥) → Whole rows q → Whole (slice_set rows (p * 16 + v) c) q
+whole_set rows v p q c l ne h w m =
+    get_or-set_other rows (p * 16 + v) (q * 16 + w) c 0 (λ e. ne (omega (arith, e, l, m)))
+    ∙ h w m ∙ sym (get_or-set_other rows (p * 16 + v) (q * 16) c 0 (λ e. ne (omega (arith, e, l))))
+
+-- and so the cells are one
+pub whole_cells : (rows : List ℕ) (p : ℕ) → Whole rows p → (v w : ℕ) → v < 16 → w < 16 → cell_at rows v p ≡ cell_at rows w p
+whole_cells rows p h v w l m =
+    ap (λ b. cond (b && ltb p 32) (get_or rows (p * 16 + v) 0) 0) (lt-ltb v 16 l) ∙ ap (λ x. cond (ltb p 32) x 0) (h v l ∙ sym (h w m)) ∙ sym (ap (λ b. cond (b && ltb p 32) (get_or rows (p * 16 + w) 0) 0) (lt-ltb w 16 m))

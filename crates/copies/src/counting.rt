@@ -1,11 +1,11 @@
 // How many groups variants form over all places, by who shares a place.
-ghost use Rattle.std.specs.Prelude.{◌≡◌, ℕ, ◌≤◌, Bool, ◌&&◌, ◌||◌, ◌==◌, not, if◌then◌else◌, map};
+ghost use Rattle.std.specs.Prelude.{◌≡◌, ℕ, ◌≤◌, Bool, true, false, ◌&&◌, ◌||◌, ◌==◌, not, if◌then◌else◌, map};
 ghost use Rattle.account.specs.Account.{ind, sum_below};
 ghost use Rattle.account.specs.Groups.{leads};
 ghost use Rattle.group.specs.Groups.{has};
 ghost use Rattle.copies.specs.Sharing.{groups, shares, shares_decided, shares_stepped, together};
 ghost use Rattle.copies.specs.Cells.{cell_of};
-ghost use Rattle.copies.specs.Tests.{TellsSharing};
+ghost use Rattle.copies.specs.Tests.{AllShare, TellsSharing, TellsWhole};
 
 use crate::below::{any, count};
 use crate::store::Copies;
@@ -20,23 +20,33 @@ fn leads<F: Fn(u8, u8, u8) -> bool>(live: Group, share: &F, p: u8, v: u8) -> boo
     live.has(v) && !any(v, |w| live.has(w) && share(p, v, w))
 }
 
-// How many groups there are at the place p.
-fn groups_at<F: Fn(u8, u8, u8) -> bool>(live: Group, share: &F, p: u8) -> u32
+// How many groups there are at the place p. Where it is whole, all that are live are one.
+fn groups_at<F: Fn(u8, u8, u8) -> bool>(live: Group, share: &F, p: u8, whole: bool) -> u32
     requires { F.IsAlwaysCallable share.now }
-    ensures value { (f : ℕ → ℕ → ℕ → Bool) → TellsSharing (F.post share.now) f → result ≡ sum_below (λ v. ind (leads (has live) (f p) v)) 16 }
+    ensures value { (f : ℕ → ℕ → ℕ → Bool) → TellsSharing (F.post share.now) f → (whole ≡ true → AllShare (f p)) → result ≡ sum_below (λ v. ind (leads (has live) (f p) v)) 16 }
     ensures few { result ≤ 16 }
 {
-    count(VARIANTS, |v| leads(live, share, p, v))
+    if whole {
+        u32::from(!live.is_empty())
+    } else {
+        count(VARIANTS, |v| leads(live, share, p, v))
+    }
 }
 
-// How many groups there are over all places.
-fn count_groups<F: Fn(u8, u8, u8) -> bool>(live: Group, places: u8, share: F) -> u32
-    requires { F.IsAlwaysCallable share }
-    ensures { (f : ℕ → ℕ → ℕ → Bool) → TellsSharing (F.post share) f → result ≡ groups places live f }
+// How many groups there are over all places, of which some are whole.
+fn count_groups<W: Fn(u8) -> bool, F: Fn(u8, u8, u8) -> bool>(
+    live: Group,
+    places: u8,
+    whole: W,
+    share: F,
+) -> u32
+    requires whole { W.IsAlwaysCallable whole }
+    requires share { F.IsAlwaysCallable share }
+    ensures { (f : ℕ → ℕ → ℕ → Bool) → TellsSharing (F.post share) f → TellsWhole (W.post whole) f → result ≡ groups places live f }
 {
     let mut groups = 0;
     for p in 0..places {
-        groups += groups_at(live, &share, p);
+        groups += groups_at(live, &share, p, whole(p));
     }
     groups
 }
@@ -63,11 +73,23 @@ fn stay_together(heads: &[Held], x: u8, y: u8) -> bool
 }
 
 impl Copies {
+    // Where it tells so, all variants share the place p, and it is not the other.
+    fn is_whole_but(&self, other: u8, p: u8) -> bool
+        ensures { result ≡ true → ((p == other) ≡ false) × AllShare (shares (cell_of self.now) p) }
+    {
+        p != other && self.is_whole(p)
+    }
+
     // The copies in use: one for each group, at each place.
     pub fn groups(&self, live: Group, places: u8) -> u32
         ensures { result ≡ groups places live (shares (cell_of self.now)) }
     {
-        count_groups(live, places, |p, x, y| self.shares(x, y, p))
+        count_groups(
+            live,
+            places,
+            |p| self.is_whole(p),
+            |p, x, y| self.shares(x, y, p),
+        )
     }
 
     // How many there will be once v is given an order at a place.
@@ -77,6 +99,7 @@ impl Copies {
         count_groups(
             live,
             places,
+            |p| self.is_whole_but(place, p),
             |p, x, y| self.shares(x, y, p) && !tells_apart(v, place, p, x, y),
         )
     }
@@ -85,8 +108,11 @@ impl Copies {
     pub fn groups_stepped(&self, live: Group, places: u8, heads: &[Held], receiver: u8) -> u32
         ensures { result ≡ groups places live (shares_stepped (cell_of self.now) (map (λ h. h.group) heads.now) receiver) }
     {
-        count_groups(live, places, |p, x, y| {
-            self.shares(x, y, p) && (p != receiver || stay_together(heads, x, y))
-        })
+        count_groups(
+            live,
+            places,
+            |p| self.is_whole_but(receiver, p),
+            |p, x, y| self.shares(x, y, p) && (p != receiver || stay_together(heads, x, y)),
+        )
     }
 }

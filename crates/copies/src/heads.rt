@@ -1,20 +1,32 @@
 // The messages that a step takes: which one each variant runs, and how many executions they come to.
-ghost use Rattle.std.specs.Prelude.{◌≡◌, ◌≤◌};
+ghost use Rattle.std.specs.Prelude.{◌≡◌, ℕ, ◌≤◌};
 ghost use Rattle.event.specs.Lists.{first};
 ghost use Rattle.calendar.specs.Calls.{waiting};
+ghost use Rattle.group.specs.Groups.{has};
 ghost use Rattle.copies.specs.Cells.{cell_of};
-ghost use Rattle.copies.specs.Executions.{executions, leads_message};
+ghost use Rattle.copies.specs.Executions.{executions, leads_message, takes};
 
-use crate::below::count;
+use crate::below::gather;
 use crate::store::Copies;
 use calendar::Held;
-use group::VARIANTS;
+use group::Group;
 
 // The message that v runs, if it has one.
 pub fn message_for(heads: &[Held], v: u8) -> Option<Held>
     ensures { result ≡ first (waiting v heads.now) }
 {
     heads.iter().copied().find(|h| h.group.has(v))
+}
+
+// The variants that have one of these messages.
+pub fn takers(heads: &[Held]) -> Group
+    ensures { (v : ℕ) → has result v ≡ takes heads.now v }
+{
+    let mut takers = Group::empty();
+    for h in heads {
+        takers = takers.union(h.group);
+    }
+    takers
 }
 
 impl Copies {
@@ -30,6 +42,6 @@ impl Copies {
         ensures value { result ≡ executions (cell_of self.now) heads.now }
         ensures few { result ≤ 16 }
     {
-        count(VARIANTS, |v| self.leads_message(heads, v))
+        gather(takers(heads), |v| self.leads_message(heads, v)).size()
     }
 }

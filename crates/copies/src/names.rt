@@ -1,5 +1,6 @@
 // The table of names: which cell each variant has at each place.
-ghost use Rattle.std.specs.Prelude.{◌≡◌, ℕ, ◌&&◌, ◌+◌, ◌*◌, ◌%◌, ◌<◌, length, ◌==◌, nat_lt, if◌then◌else◌, slice_index_or};
+ghost use Rattle.std.specs.Prelude.{◌≡◌, ℕ, ◌&&◌, ◌+◌, ◌*◌, ◌/◌, ◌<◌, length, ◌==◌, false, true, nat_lt, if◌then◌else◌, slice_index_or};
+ghost use Rattle.copies.specs.Rows.{Whole};
 ghost use Rattle.copies.specs.Sharing.{copy_cells, move_cell};
 ghost use Rattle.copies.specs.Starts.{starting_cell};
 
@@ -12,27 +13,30 @@ pub(crate) const PLACES: u8 = 32;
 // How many cells there are.
 pub(crate) const CELLS: u8 = 128;
 
-// A row of 32 cells for each variant. No variant and no place beyond them has a name of its own.
+// A row of 16 cells for each place, so that those of all variants at a place lie side by side. No variant and no place beyond them has a name of its own.
 // In one array, since nothing is known of the lengths of arrays in an array.
 #[derive(Clone, Copy)]
 pub(crate) struct Names {
     rows: [u8; 512],
+    // the places at which variants may have different cells
+    parted: [bool; 32],
     ghost inside: { (i : ℕ) → slice_index_or rows i 0 < 128 },
+    ghost whole: { (p : ℕ) → p < 32 → slice_index_or parted p false ≡ false → Whole rows p },
 }
 
 // Where the name of v at the place p stands.
 fn index(v: u8, p: u8) -> usize
-    ensures { result ≡ v * 32 + p }
+    ensures { result ≡ p * 16 + v }
 {
-    usize::from(v) * usize::from(PLACES) + usize::from(p)
+    usize::from(p) * usize::from(VARIANTS) + usize::from(v)
 }
 
 // The cell p for the place p, row by row.
 fn starting_rows() -> [u8; 512]
-    ensures cells { (i : ℕ) → i < 512 → slice_index_or result i 0 ≡ i % 32 }
+    ensures cells { (i : ℕ) → i < 512 → slice_index_or result i 0 ≡ i / 16 }
     ensures len { length result ≡ 512 }
 {
-    array::from_fn(|i| (i % usize::from(PLACES)) as u8)
+    array::from_fn(|i| (i / usize::from(VARIANTS)) as u8)
 }
 
 impl Names {
@@ -44,6 +48,7 @@ impl Names {
     {
         Names {
             rows: starting_rows(),
+            parted: [false; 32],
         }
     }
 
@@ -59,13 +64,21 @@ impl Names {
         }
     }
 
+    // Where it tells so, all variants have one cell at the place p.
+    pub(crate) fn is_whole(&self, p: u8) -> bool
+        ensures { result ≡ true → (v w : ℕ) → v < 16 → w < 16 → cell_in self.now v p ≡ cell_in self.now w p }
+    {
+        p >= PLACES || !self.parted[usize::from(p)]
+    }
+
     // The child has its parent's cells.
     pub(crate) fn copy_row(&mut self, parent: u8, child: u8)
         ensures { cell_in self.new ≡ (if nat_lt parent 16 && nat_lt child 16 then copy_cells (cell_in self.old) parent child else cell_in self.old) }
     {
         if parent < VARIANTS && child < VARIANTS {
-            let row = index(parent, 0)..index(parent, PLACES);
-            self.rows.copy_within(row, index(child, 0));
+            for p in 0..PLACES {
+                self.set(child, p, self.cell(parent, p));
+            }
         }
     }
 
@@ -76,7 +89,10 @@ impl Names {
         requires cell { c < 128 }
         ensures { (w q : ℕ) → cell_in self.new w q ≡ (if w == v && q == p then c else cell_in self.old w q) }
     {
-        self.rows[index(v, p)] = c;
+        if self.rows[index(v, p)] != c {
+            self.rows[index(v, p)] = c;
+            self.parted[usize::from(p)] = true;
+        }
     }
 
     // The group has the cell c at the place p from now on.

@@ -1,13 +1,33 @@
 // Who shares a copy with whom.
-ghost use Rattle.std.specs.Prelude.{◌≡◌};
+ghost use Rattle.std.specs.Prelude.{◌≡◌, not, true};
+ghost use Rattle.account.specs.Account.{any_below};
+ghost use Rattle.group.specs.Groups.{has};
 ghost use Rattle.copies.specs.Cells.{cell_of};
 ghost use Rattle.copies.specs.Sharing.{crowded, leads_at, sharers, shares};
+ghost use Rattle.copies.specs.Tests.{AllShare};
 
-use crate::below::{any, gather};
+use crate::below::{any_of, gather};
 use crate::store::Copies;
 use group::{Group, VARIANTS};
 
+// Whether nobody below v is in the group.
+fn is_least(group: Group, v: u8) -> bool
+    ensures { result ≡ not (any_below (has group) v) }
+{
+    match group.least() {
+        Some(w) => v <= w,
+        None => true,
+    }
+}
+
 impl Copies {
+    // Where it tells so, all variants share the place p.
+    pub(crate) fn is_whole(&self, p: u8) -> bool
+        ensures { result ≡ true → AllShare (shares (cell_of self.now) p) }
+    {
+        self.names.is_whole(p)
+    }
+
     // Whether v and w share their copy of the place p.
     pub fn shares(&self, v: u8, w: u8, p: u8) -> bool
         ensures { result ≡ shares (cell_of self.now) p v w }
@@ -19,24 +39,24 @@ impl Copies {
     pub fn sharers(&self, among: Group, p: u8, v: u8) -> Group
         ensures { result ≡ sharers (cell_of self.now) among p v }
     {
-        gather(|w| among.has(w) && self.shares(w, v, p))
+        if v < VARIANTS && self.is_whole(p) {
+            return among;
+        }
+        let cell = self.cell(v, p);
+        gather(among, |w| self.cell(w, p) == cell)
     }
 
     // Whether v is the smallest of them.
     pub fn leads(&self, among: Group, p: u8, v: u8) -> bool
         ensures { result ≡ leads_at (cell_of self.now) among p v }
     {
-        let group = self.sharers(among, p, v);
-        !any(v, |w| group.has(w))
+        is_least(among, v) || !any_of(among, |w| w < v && self.shares(w, v, p))
     }
 
     // Whether a live variant outside the group has v's copy of the place p.
     pub fn is_crowded(&self, live: Group, group: Group, p: u8, v: u8) -> bool
         ensures { result ≡ crowded (cell_of self.now) live group p v }
     {
-        any(
-            VARIANTS,
-            |u| live.has(u) && self.shares(u, v, p) && !group.has(u),
-        )
+        any_of(live.difference(group), |u| self.shares(u, v, p))
     }
 }
