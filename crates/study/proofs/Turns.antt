@@ -1,7 +1,7 @@
 -- A group's run and the turns of a step, by what they leave.
-use Rattle.std.proofs.Common.{◌≡◌, ℕ, suc, ◌+◌, ◌^◌, ◌<◌, min, true, ltb, ◌&&◌, List, length, sym, refl, ap, ◌∙◌, subst, add-one, arith}
+use Rattle.std.proofs.Common.{◌≡◌, ℕ, zero, suc, ◌+◌, ◌^◌, ◌<◌, ◌≤◌, ⊎_elim, Bool, min, true, false, ltb, ◌&&◌, List, length, sym, refl, ap, ◌∙◌, subst, add-one, arith}
 use Rattle.std.specs.Prelude.{if◌then◌else◌}
-use Rattle.std.proofs.lemmas.Bool.{cond-true, lt-ltb, and_from}
+use Rattle.std.proofs.lemmas.Bool.{cases_eq, cond-true, lt-ltb, and_from}
 use Rattle.event.specs.Lists.{first}
 use Rattle.group.specs.declared.Group.{Group}
 use Rattle.calendar.specs.Contents.{Contents}
@@ -11,6 +11,9 @@ use Rattle.model.specs.declared.Sends.{Sends}
 use Rattle.model.specs.Meaning.{Meaning, Law, listed}
 use Rattle.day.specs.declared.place.Place.{Place}
 use Rattle.day.specs.Day.{reaction, stamped, within, posted_by, place_after}
+use Rattle.copies.specs.Executions.{takes}
+use Rattle.copies.proofs.Leads.{no_message}
+use Rattle.copies.proofs.Members.{From, gap}
 use Rattle.copies.specs.Sharing.{sharers, target, move_cell, move_content}
 use Rattle.follows.specs.View.{View, put_all}
 use Rattle.follows.specs.Steps.{ran_group, turn_of, turns}
@@ -87,6 +90,14 @@ turns_more : (M : Meaning) (heads : List Held) (V : View) (n : ℕ) → turns M 
 unfolding turns
 turns_more M heads V n = ap (turns M heads V) (add-one n)
 
+-- those that have no message do nothing in their turns
+turns_skip : (M : Meaning) (heads : List Held) (V : View) (n m : ℕ) → n ≤ m → ((w : ℕ) → n ≤ w → w < m → takes heads w ≡ false) → turns M heads V m ≡ turns M heads V n
+unfolding turns
+turns_skip M heads V n zero l h = let e : 0 ≡ n = omega (arith, l) in ap (turns M heads V) e
+turns_skip M heads V n (suc m) l h = ⊎_elim
+    (λ (e : n ≡ suc m). ap (turns M heads V) (sym e))
+    (λ (ne : n ≡ suc m → ⊥). let k : n ≤ m = omega (arith, ne, l) in ap (turn_of M (turns M heads V m) m) (no_message heads m (h m k (omega arith))) ∙ turns_skip M heads V n m k (λ w a b. h w a (omega (arith, b)))) (cases_eq n (suc m))
+
 -- the turns of a study, one after the other
 module _ {C M : Type 0} (contents : C → Contents) (meaning : M → Meaning) (old : Study C M) where
   abbrev pub Turned : Study C M → ℕ → Type 0
@@ -102,3 +113,8 @@ module _ {C M : Type 0} (contents : C → Contents) (meaning : M → Meaning) (o
       turn (subst (λ (x : Meaning × ℕ × List Held × View). TurnReady x.0 x.1 x.2 x.3 v) (λ i. (meaning (sym same.model i), sym same.room i, (sym heads i).items, sym e i)) (ready v l))
       ∙ (λ i. turn_of (meaning (same.model i)) (e i) v (first (waiting v (heads i).items)))
       ∙ sym (turns_more (meaning old.model) old.heads.items (view_of contents old) v)
+
+  -- up to the next that has a message, and to the end where none is left
+  pub turned_up : (s : Study C M) (rest : ℕ → Bool) (n m : ℕ) → From (takes old.heads.items) rest n → n ≤ m → ((w : ℕ) → w < m → rest w ≡ false) → Turned s n → Turned s m
+  turned_up s rest n m h l low turned ready =
+      turned ready ∙ sym (turns_skip (meaning old.model) old.heads.items (view_of contents old) n m l (λ w a b. gap (takes old.heads.items) rest n h w a (low w b)))

@@ -19,10 +19,9 @@ use crate::fault::StudyFault;
 use crate::heads::find_heads;
 use crate::posting::Post;
 use calendar::{Calendar, Held};
-use copies::heads::message_for;
+use copies::heads::{message_for, takers};
 use day::Place;
 use event::Message;
-use group::VARIANTS;
 use journal::{ENTRIES, Journal};
 use model::{Model, Sends};
 
@@ -85,13 +84,15 @@ impl<C: Calendar, M: Model> Study<C, M> {
         }
     }
 
-    // The turns of all variants.
+    // The turns of all variants, of which those that have no message do nothing.
     fn run_turns(&mut self)
         ensures held { TurnsReady (M.meaning self.old.model) (C.meaning self.old.calendar).room self.old.heads.items (view_of C.meaning self.old) → view_of C.meaning self.new ≡ turns (M.meaning self.old.model) self.old.heads.items (view_of C.meaning self.old) 16 }
         ensures same { SameParts C.meaning self.old self.new }
     {
-        for v in 0..VARIANTS {
+        let mut rest = takers(&self.heads);
+        while let Some(v) = rest.least() {
             self.run_turn(v);
+            rest = rest.without(v);
         }
     }
 

@@ -1,13 +1,20 @@
--- The turns of the variants below v are over.
-use Rattle.std.proofs.Common.{◌≡◌}
-use Rattle.follows.specs.Steps.{turns}
-use Rattle.study.specs.Promises.{SameParts, view_of}
-use Rattle.study.specs.Turns.{TurnsReady}
+-- The turns of the variants below n are over, and the others that have a message are left.
+use Rattle.std.proofs.Common.{◌≡◌, ℕ}
+use Rattle.group.specs.Groups.{count, has}
+use Rattle.copies.specs.Executions.{takes}
+use Rattle.copies.proofs.Members.{From}
+use Rattle.study.specs.Promises.{SameParts}
+use Rattle.study.proofs.Turns.{Turned}
 use Rattle.study.proofs.Study.run_turns.Given as goal
 
 abbrev pub invariant-loop-v : goal.invariant-loop-v
-invariant-loop-v g l = let old = l.initial.self in let M = g.M.Model.meaning old.model in record {
+invariant-loop-v g l = let old = l.initial.self in record {
+  n : ℕ;
+  from : From (takes old.heads.items) (has l.rest) n;
   same : SameParts g.C.Calendar.meaning old l.self;
   heads : l.self.heads ≡ old.heads;
-  held : TurnsReady M (g.C.Calendar.meaning old.calendar).room old.heads.items (view_of g.C.Calendar.meaning old) → view_of g.C.Calendar.meaning l.self ≡ turns M old.heads.items (view_of g.C.Calendar.meaning old) l.v;
+  held : Turned g.C.Calendar.meaning g.M.Model.meaning old l.self n;
 }
+
+abbrev pub decreases-loop-v : goal.decreases-loop-v
+decreases-loop-v g l = count (has l.rest) 16
