@@ -89,7 +89,7 @@ impl Journal {
         ensures { self.new ≡ spread v c self.old }
     {
         for h in self.entries.iter_mut() {
-            *h = h.joins(v, c);
+            h.group = h.joins(v, c).group;
         }
     }
 
