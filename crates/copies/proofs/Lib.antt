@@ -1,6 +1,7 @@
 pub mod Rows
 pub mod Marks
 pub mod Leads
+pub mod Leaders
 pub mod Members
 pub mod Numbers
 pub mod Groups

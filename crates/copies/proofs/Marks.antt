@@ -1,6 +1,7 @@
 -- The marks of cells.
-use Rattle.std.proofs.Common.{◌≡◌, ℕ, ◌+◌, ◌<◌, Bool, true, false, ◌||◌, eqb, List, length, get_or, slice_set, sym, refl, ap, ◌∙◌, ⊎_elim, add-one, get_or-set_same, get_or-set_other}
-use Rattle.std.proofs.lemmas.Bool.{cases_eq, eq-eqb, ne_eqb}
+use Rattle.std.proofs.Common.{◌≡◌, ℕ, zero, suc, ◌+◌, ◌<◌, ◌≤◌, Bool, true, false, ◌||◌, eqb, List, length, get_or, slice_set, sym, refl, ap, ◌∙◌, ⊎_elim, add-one, get_or-set_same, get_or-set_other, Some, None, arith}
+use Rattle.std.proofs.lemmas.Bool.{cases_eq, eq-eqb, ne_eqb, cond-true, cond-false}
+use Rattle.std.specs.List.{find, range_with_len}
 use Rattle.account.specs.Account.{any_below}
 
 -- none below 0, and one number more
@@ -23,3 +24,15 @@ one_marked marks k c f v before l e h =
 -- and nothing is marked where v is not of them
 pub none_marked : (f : ℕ → Bool) (v : ℕ) (before mark : Bool) → f v ≡ false → mark ≡ (any_below f v || before) → mark ≡ (any_below f (v + 1) || before)
 none_marked f v before mark e h = h ∙ sym (ap (λ b. b || before) (any_more f v ∙ ap (λ b. b || any_below f v) e))
+
+-- the first of some numbers that passes
+pub finds_first : (f : ℕ → Bool) (a n c : ℕ) → a ≤ c → c < a + n → ((x : ℕ) → a ≤ x → x < c → f x ≡ false) → f c ≡ true → find f (range_with_len a n) ≡ Some c
+finds_first f a zero c l m low at = absurd (omega (arith, l, m))
+finds_first f a (suc n) c l m low at = ⊎_elim
+    (λ (e : a ≡ c). cond-true _ _ _ (ap f e ∙ at) ∙ ap Some e)
+    (λ (ne : a ≡ c → ⊥). cond-false _ _ _ (low a (omega arith) (omega (arith, l, ne))) ∙ ap (λ b. find f (range_with_len b n)) (add-one a) ∙ finds_first f (suc a) n c (omega (arith, l, ne)) (omega (arith, m)) (λ x b k. low x (omega (arith, b)) k) at) (cases_eq a c)
+
+-- and none, where none passes
+pub finds_none : (f : ℕ → Bool) (a n : ℕ) → ((x : ℕ) → a ≤ x → x < a + n → f x ≡ false) → find f (range_with_len a n) ≡ None
+finds_none f a zero low = refl
+finds_none f a (suc n) low = cond-false _ _ _ (low a (omega arith) (omega arith)) ∙ ap (λ b. find f (range_with_len b n)) (add-one a) ∙ finds_none f (suc a) n (λ x b k. low x (omega (arith, b)) (omega (arith, k)))

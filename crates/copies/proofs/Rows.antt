@@ -1,11 +1,8 @@
 -- What a change of a table of names makes of the cells.
-use Rattle.std.proofs.Common.{◌≡◌, ℕ, ◌+◌, ◌*◌, ◌/◌, ◌<◌, ◌≤◌, true, false, cond, eqb, ◌&&◌, ltb, List, length, get_or, get_or-set_other, slice_set, refl, sym, ap, ◌∙◌, ◌⊎◌, inl, inr, ⊎_elim, arith}
-use Rattle.std.proofs.lemmas.Bool.{cases_lt, cases_Bool, and_parts, and_right, cond-true, cond-false, ltb-true, lt-ltb}
+use Rattle.std.proofs.Common.{◌≡◌, ℕ, ◌+◌, ◌*◌, ◌/◌, ◌<◌, ◌≤◌, Bool, true, false, not, cond, eqb, ◌&&◌, ltb, List, length, get_or, get_or-set_other, slice_set, refl, sym, ap, ◌∙◌, ◌⊎◌, inl, inr, ⊎_elim, arith}
+use Rattle.std.proofs.lemmas.Bool.{cases_lt, cases_Bool, and_parts, and_right, eqb-true, cond-true, cond-false, ltb-true, lt-ltb}
 use Rattle.std.proofs.lemmas.Bool.Decides.{nat_tests}
 use Rattle.std.proofs.lemmas.List.{get_or_past}
-use Rattle.group.specs.declared.Group.{Group}
-use Rattle.group.specs.Groups.{has}
-use Rattle.group.proofs.Members.{has_above}
 use Rattle.copies.specs.Rows.{Whole, cell_at}
 use Rattle.copies.specs.Sharing.{copy_cells}
 use Rattle.copies.specs.Starts.{starting_cell}
@@ -14,11 +11,24 @@ use Rattle.copies.specs.Starts.{starting_cell}
 pub same_cells : (f g : ℕ → ℕ → ℕ) → ((v p : ℕ) → f v p ≡ g v p) → f ≡ g
 same_cells f g h = λ i v p. h v p i
 
--- all of a group are below 16
-pub below_all : (g : Group) (n w : ℕ) → 16 ≤ n → (ltb w n && has g w) ≡ has g w
-below_all g n w h = ⊎_elim
-    (λ (e : ltb w 16 ≡ true). let l = ltb-true w 16 e in let k : ltb w n ≡ true = lt-ltb w n (omega arith) in ap (λ b. b && has g w) k)
-    (λ (e : ltb w 16 ≡ false). and_right (ltb w n) (has g w) (has_above g w e) ∙ sym (has_above g w e)) (cases_Bool (ltb w 16))
+-- none of a group has gone over while all are left
+pub none_over : (g b : Bool) (c x : ℕ) → x ≡ cond ((g && not g) && b) c x
+none_over true b c x = refl
+none_over false b c x = refl
+
+-- the next of them goes over
+pub one_over : (group rest : ℕ → Bool) (v w : ℕ) (b : Bool) (c x y : ℕ) → group v ≡ true → x ≡ cond ((group w && not (rest w)) && b) c y → cond (eqb w v && b) c x ≡ cond ((group w && not (not (eqb w v) && rest w)) && b) c y
+one_over group rest v w b c x y member h = go b (cases_Bool (eqb w v)) h
+  where
+    go : (b : Bool) → (eqb w v ≡ true) ⊎ (eqb w v ≡ false) → x ≡ cond ((group w && not (rest w)) && b) c y → cond (eqb w v && b) c x ≡ cond ((group w && not (not (eqb w v) && rest w)) && b) c y
+    go b (inr e) h = simp e h
+    go true (inl e) h = simp (e, ap group (eqb-true w v e) ∙ member) refl
+    go false (inl e) h = ap (λ z. cond z c x) (and_right (eqb w v) false refl) ∙ h ∙ ap (λ z. cond z c y) (and_right (group w && not (rest w)) false refl ∙ sym (and_right (group w && not (not (eqb w v) && rest w)) false refl))
+
+-- and all have once none is left
+pub all_over : (g r b : Bool) (c x : ℕ) → r ≡ false → cond ((g && not r) && b) c x ≡ cond (g && b) c x
+all_over true r b c x e = simp e refl
+all_over false r b c x e = refl
 
 -- the number of a place is below 32
 pub begun_inside : (rows : List ℕ) → ((i : ℕ) → i < 512 → get_or rows i 0 ≡ i / 16) → length rows ≡ 512 → (i : ℕ) → get_or rows i 0 < 128

@@ -1,7 +1,5 @@
 -- Where all share, those that are live are one group.
-use Rattle.std.proofs.Common.{◌≡◌, ℕ, zero, suc, ◌+◌, ◌<◌, ◌≤◌, leb, Bool, true, false, not, ◌&&◌, ◌||◌, sym, refl, ap, ◌∙◌, ⊎_elim, arith}
-use Rattle.std.proofs.lemmas.Bool.{cases_lt}
-use Rattle.std.proofs.lemmas.Bool.Decides.{nat_tests}
+use Rattle.std.proofs.Common.{◌≡◌, ℕ, zero, suc, ◌+◌, ◌<◌, ◌≤◌, Bool, true, false, not, ◌&&◌, ◌||◌, sym, refl, ap, ◌∙◌, arith}
 use Rattle.group.specs.declared.Group.{Group}
 use Rattle.group.specs.Groups.{has}
 use Rattle.account.specs.Account.{any_below, ind, sum_below}
@@ -10,6 +8,7 @@ use Rattle.account.proofs.Bounds.{any_from}
 use Rattle.account.proofs.Leaders.{least_in, sum_first}
 use Rattle.copies.specs.Tests.{AllShare}
 use Rattle.copies.proofs.Members.{member_small}
+use Rattle.copies.proofs.Numbers.{ind_few}
 
 any_alike : (f g : ℕ → Bool) (n : ℕ) → ((w : ℕ) → w < n → f w ≡ g w) → any_below f n ≡ any_below g n
 unfolding any_below
@@ -42,11 +41,6 @@ pub one_unless_empty : (live : Group) (empty : Bool) → (empty ≡ true → (w 
 one_unless_empty live true none some = sym (ap ind (none_below (has live) 16 (none refl)))
 one_unless_empty live false none some = let r = some refl in sym (ap ind (any_from (has live) 16 r.0 (member_small live r.0 r.1) r.1))
 
--- who is below the smallest, or in no group, is below none
-pub below_least : (g : Group) (v w : ℕ) → has g w ≡ true → ((u : ℕ) → u < w → has g u ≡ false) → leb v w ≡ not (any_below (has g) v)
-below_least g v w e low = ⊎_elim
-    (λ (l : w < v). let k : leb v w ≡ false = grind (arith, nat_tests) in k ∙ sym (ap not (any_from (has g) v w l e)))
-    (λ (l : v ≤ w). let k : leb v w ≡ true = grind (arith, nat_tests) in k ∙ sym (ap not (any_alike (has g) (λ u. false) v (λ u m. low u (omega (arith, l, m))) ∙ none_below (λ u. false) v (λ u. refl)))) (cases_lt w v)
-
-pub below_none : (g : Group) (v : ℕ) → ((u : ℕ) → has g u ≡ false) → true ≡ not (any_below (has g) v)
-below_none g v none = sym (ap not (none_below (has g) v none))
+-- so no more than one
+pub one_most : (live : Group) (share : ℕ → ℕ → Bool) → AllShare share → sum_below (λ v. ind (leads (has live) share v)) 16 ≤ 1
+one_most live share all = let e = one_group live share all in let n = ind_few (any_below (has live) 16) in omega (arith, e, n)

@@ -1,16 +1,10 @@
 -- The executions that messages come to, one for each group that runs one of them on one copy of its receiver.
 use Rattle.std.specs.Prelude.{ℕ, Bool, false, List, Some, None, Option}
-use Rattle.std.specs.List.{list_any}
 use Rattle.event.specs.Lists.{first}
-use Rattle.group.specs.Groups.{has}
 use Rattle.calendar.specs.declared.Held.{Held}
 use Rattle.calendar.specs.Calls.{waiting}
 use Rattle.account.specs.Account.{ind, sum_below}
 use Rattle.copies.specs.Sharing.{leads_at}
-
--- v has one of these messages
-abbrev pub takes : List Held → ℕ → Bool
-takes heads v = list_any (λ h. has h.group v) heads
 
 -- v is the smallest of those that run its message together
 abbrev pub leads_message : (ℕ → ℕ → ℕ) → ℕ → Option Held → Bool

@@ -41,7 +41,12 @@ impl Copies {
         ensures inside { IfSome result (λ c. c < 128) }
     {
         let used = self.used(live, places);
-        (0..CELLS).find(|c| !used[usize::from(*c)])
+        for c in 0..CELLS {
+            if !used[usize::from(c)] {
+                return Some(c);
+            }
+        }
+        None
     }
 
     // Where a group that has v's copy of the place p is to write: there, if nobody else has it, else on a free cell.

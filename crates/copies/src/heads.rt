@@ -1,12 +1,12 @@
-// The messages that a step takes: which one each variant runs, and how many executions they come to.
-ghost use Rattle.std.specs.Prelude.{◌≡◌, ℕ, ◌≤◌};
+// The messages that a step takes: which one each variant runs, and who leads the groups that run them.
+ghost use Rattle.std.specs.Prelude.{◌≡◌, ℕ, ◌&&◌};
 ghost use Rattle.event.specs.Lists.{first};
 ghost use Rattle.calendar.specs.Calls.{waiting};
-ghost use Rattle.group.specs.Groups.{has};
+ghost use Rattle.group.specs.Groups.{count, has};
 ghost use Rattle.copies.specs.Cells.{cell_of};
-ghost use Rattle.copies.specs.Executions.{executions, leads_message, takes};
+ghost use Rattle.copies.specs.Sharing.{leads_at};
+ghost use Rattle.copies.specs.Executions.{executions, leads_message};
 
-use crate::below::gather;
 use crate::store::Copies;
 use calendar::Held;
 use group::Group;
@@ -18,30 +18,32 @@ pub fn message_for(heads: &[Held], v: u8) -> Option<Held>
     heads.iter().copied().find(|h| h.group.has(v))
 }
 
-// The variants that have one of these messages.
-pub fn takers(heads: &[Held]) -> Group
-    ensures { (v : ℕ) → has result v ≡ takes heads.now v }
-{
-    let mut takers = Group::empty();
-    for h in heads {
-        takers = takers.union(h.group);
-    }
-    takers
-}
-
 impl Copies {
-    // Whether v is the smallest of those that run its message together.
-    fn leads_message(&self, heads: &[Held], v: u8) -> bool
-        ensures { result ≡ leads_message (cell_of self.now) v (first (waiting v heads.now)) }
+    // Of a group, the smallest of all that share a copy of the place p.
+    fn leaders_of(&self, group: Group, p: u8) -> Group
+        ensures { (v : ℕ) → has result v ≡ (has group v && leads_at (cell_of self.now) group p v) }
     {
-        message_for(heads, v).is_some_and(|h| self.leads(h.group, h.message.receiver, v))
+        let mut leaders = Group::empty();
+        let mut rest = group;
+        while let Some(v) = rest.least() {
+            leaders = leaders.with(v);
+            rest = rest.difference(self.sharers(group, p, v));
+        }
+        leaders
     }
 
-    // The executions that these messages come to, with nothing changed yet: one for each group that has one of them and shares its receiver.
-    pub fn executions(&self, heads: &[Held]) -> u32
-        ensures value { result ≡ executions (cell_of self.now) heads.now }
-        ensures few { result ≤ 16 }
+    // Who leads a group that runs one of these messages, with nothing changed yet. An execution is to come for each.
+    pub fn leaders(&self, heads: &[Held]) -> Group
+        ensures members { (v : ℕ) → has result v ≡ leads_message (cell_of self.now) v (first (waiting v heads.now)) }
+        ensures count { count (has result) 16 ≡ executions (cell_of self.now) heads.now }
     {
-        gather(takers(heads), |v| self.leads_message(heads, v)).size()
+        let mut leaders = Group::empty();
+        let mut seen = Group::empty();
+        for h in heads {
+            let others = self.leaders_of(h.group, h.message.receiver).difference(seen);
+            leaders = leaders.union(others);
+            seen = seen.union(h.group);
+        }
+        leaders
     }
 }

@@ -101,10 +101,10 @@ impl Names {
         requires cell { c < 128 }
         ensures { cell_in self.new ≡ move_cell (cell_in self.old) group p c }
     {
-        for v in 0..VARIANTS {
-            if group.has(v) {
-                self.set(v, p, c);
-            }
+        let mut rest = group;
+        while let Some(v) = rest.least() {
+            self.set(v, p, c);
+            rest = rest.without(v);
         }
     }
 }

@@ -1,24 +1,12 @@
 // Who shares a copy with whom.
-ghost use Rattle.std.specs.Prelude.{◌≡◌, not, true};
-ghost use Rattle.account.specs.Account.{any_below};
-ghost use Rattle.group.specs.Groups.{has};
+ghost use Rattle.std.specs.Prelude.{◌≡◌, true};
 ghost use Rattle.copies.specs.Cells.{cell_of};
-ghost use Rattle.copies.specs.Sharing.{crowded, leads_at, sharers, shares};
+ghost use Rattle.copies.specs.Sharing.{crowded, sharers, shares};
 ghost use Rattle.copies.specs.Tests.{AllShare};
 
 use crate::below::{any_of, gather};
 use crate::store::Copies;
 use group::{Group, VARIANTS};
-
-// Whether nobody below v is in the group.
-fn is_least(group: Group, v: u8) -> bool
-    ensures { result ≡ not (any_below (has group) v) }
-{
-    match group.least() {
-        Some(w) => v <= w,
-        None => true,
-    }
-}
 
 impl Copies {
     // Where it tells so, all variants share the place p.
@@ -44,13 +32,6 @@ impl Copies {
         }
         let cell = self.cell(v, p);
         gather(among, |w| self.cell(w, p) == cell)
-    }
-
-    // Whether v is the smallest of them.
-    pub fn leads(&self, among: Group, p: u8, v: u8) -> bool
-        ensures { result ≡ leads_at (cell_of self.now) among p v }
-    {
-        is_least(among, v) || !any_of(among, |w| w < v && self.shares(w, v, p))
     }
 
     // Whether a live variant outside the group has v's copy of the place p.

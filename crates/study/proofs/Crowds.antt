@@ -6,27 +6,7 @@ use Rattle.group.specs.Groups.{count, has}
 use Rattle.account.specs.Account.{ind, sum_below}
 use Rattle.account.specs.Groups.{leads}
 use Rattle.copies.specs.Sharing.{groups}
-
--- no more than n are counted of n
-pub few_counted : (f : ℕ → Bool) (n : ℕ) → count f n ≤ n
-unfolding count
-few_counted f zero = omega arith
-few_counted f (suc n) = one (f n) (few_counted f n)
-  where
-    one : (b : Bool) → count f n ≤ n → count f n + cond b 1 0 ≤ suc n
-    one true h = omega (arith, h)
-    one false h = omega (arith, h)
-
--- who leads is live
-few_lead : (live : ℕ → Bool) (share : ℕ → ℕ → Bool) (n : ℕ) → sum_below (λ v. ind (leads live share v)) n ≤ count live n
-unfolding count sum_below
-few_lead live share zero = omega arith
-few_lead live share (suc n) = one (live n) _ (few_lead live share n)
-  where
-    one : (a b : Bool) → sum_below (λ v. ind (leads live share v)) n ≤ count live n → sum_below (λ v. ind (leads live share v)) n + ind (a && b) ≤ count live n + cond a 1 0
-    one true true h = omega (arith, h)
-    one true false h = omega (arith, h)
-    one false b h = omega (arith, h)
+use Rattle.copies.proofs.Leads.{few_lead}
 
 few_groups : (places : ℕ) (live : Group) (share : ℕ → ℕ → ℕ → Bool) → groups places live share ≤ places * count (has live) 16
 unfolding sum_below

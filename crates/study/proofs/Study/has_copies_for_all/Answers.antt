@@ -1,7 +1,7 @@
 use Rattle.std.proofs.Common.{◌<◌, ◌≤◌, rules, arith}
 use Rattle.std.proofs.lemmas.Nat.{mul-le}
 use Rattle.group.specs.Groups.{has}
-use Rattle.study.proofs.Crowds.{few_counted}
+use Rattle.copies.proofs.Leads.{few_counted}
 use Rattle.study.proofs.Study.has_copies_for_all.Goals as goal
 
 pub overflow_mul-result : goal.overflow_mul-result
