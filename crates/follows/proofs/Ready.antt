@@ -1,6 +1,8 @@
 -- No number passes its type in a turn of a step that is not refused.
-use Rattle.std.proofs.Common.{◌≡◌, ℕ, ◌≤◌, true, not, map, ap, ◌∙◌, arith}
+use Rattle.std.proofs.Common.{◌≡◌, ℕ, ◌≤◌, true, not, map, refl, ap, ◌∙◌, arith}
 use Rattle.event.specs.declared.Key.{Key}
+use Rattle.event.specs.Lists.{first}
+use Rattle.calendar.specs.Calls.{waiting}
 use Rattle.model.specs.Meaning.{Meaning, Law}
 use Rattle.day.specs.declared.place.Place.{Place}
 use Rattle.account.specs.Account.{Account, ind, leads_run, runs}
@@ -9,14 +11,15 @@ use Rattle.account.specs.Orders.{plain}
 use Rattle.account.specs.Sound.{Sound}
 use Rattle.account.proofs.After.{alone_stands, bounded_stands, sound_after}
 use Rattle.follows.specs.View.{View}
+use Rattle.follows.specs.Steps.{with_key}
 use Rattle.follows.specs.Accounted.{Accounted}
-use Rattle.follows.specs.Ready.{HeadsFew, TurnsReady}
+use Rattle.follows.specs.Ready.{HeadsFew, LeadersStay, TurnsReady}
 use Rattle.follows.proofs.Modest.{executions_few, journal_few, sum_most}
 use Rattle.follows.proofs.Rooms.{ind_most, room_is_found}
 use Rattle.follows.proofs.Sent.{few_sent}
 use Rattle.follows.proofs.Stands.{counts_agree}
 use Rattle.follows.proofs.Taking.{least_head}
-use Rattle.follows.proofs.Turns.{Allowed, step_allowed, head, holds, mid, receives}
+use Rattle.follows.proofs.Turns.{Allowed, step_allowed, head, holds, mid, receives, stays}
 
 -- before a step that is not refused no place of a live variant has sent more than 4,096
 sent_most : (M : Meaning) (capacity : ℕ) → Law M → (V : View) (A : Account) → Accounted M capacity V A → (k : Key) → Allowed M capacity A k → (v p : ℕ) → A.live v ≡ true → ((A.day v).place p).sent ≤ 4096
@@ -49,6 +52,9 @@ turns_ready M capacity law small V A a denied k n h first below is leads = recor
   where
     allowed : Allowed M capacity A k
     allowed = step_allowed M capacity law V A a denied k first
+
+pub leaders_stay : LeadersStay
+leaders_stay M capacity law V A a denied k n is = stays M capacity law V A a k (step_allowed M capacity law V A a denied k is) n (first (waiting n (with_key k V.held))) refl
 
 -- each is counted by the one of its variants that leads
 pub heads_few : HeadsFew

@@ -1,5 +1,5 @@
 -- What is known at the turn of a variant that leads, in a step that is not refused.
-use Rattle.std.proofs.Common.{◌≡◌, ℕ, ◌+◌, ◌*◌, ◌<◌, ◌≤◌, true, sym, ap, ◌∙◌, subst, Option, Some, None}
+use Rattle.std.proofs.Common.{◌≡◌, ℕ, ◌+◌, ◌*◌, ◌<◌, ◌≤◌, true, refl, sym, ap, ◌∙◌, subst, Option, Some, None}
 use Rattle.std.proofs.lemmas.Bool.{cond-false, ltb-false}
 use Rattle.event.specs.declared.Key.{Key}
 use Rattle.event.specs.Lists.{first}
@@ -15,7 +15,7 @@ use Rattle.account.proofs.Refusing.{none_met}
 use Rattle.account.proofs.Step.{step_sound_at}
 use Rattle.follows.specs.View.{View}
 use Rattle.follows.specs.Follows.{Follows}
-use Rattle.follows.specs.Steps.{head_key, with_key, leads_in}
+use Rattle.follows.specs.Steps.{head_key, with_key, took_all, leads_in, turns}
 use Rattle.follows.specs.Claims.{before_turn}
 use Rattle.follows.specs.Accounted.{Accounted}
 use Rattle.follows.specs.Refusing.{refusal_of}
@@ -46,6 +46,22 @@ step_allowed M capacity law V A a e k head = record {
 
     m : NoneMet (cases M capacity A step)
     m = none_met (cases M capacity A step) (sym (refusal_same M capacity law V A (sound_after law a.after) a.follows step) ∙ e)
+
+before_first : (M : Meaning) (V : View) (k : Key) → before_turn M V k 0 ≡ took_all V k
+unfolding turns
+before_first M V k = refl
+
+-- who leads is told by who runs, at every turn alike
+pub stays : (M : Meaning) (capacity : ℕ) (law : Law M) (V : View) (A : Account) (a : Accounted M capacity V A) (k : Key) → Allowed M capacity A k → (n : ℕ) (o : Option Held) → first (waiting n (with_key k V.held)) ≡ o
+    → leads_in (before_turn M V k n) n o ≡ leads_in V n o
+stays M capacity law V A a k allowed n None is = refl
+stays M capacity law V A a k allowed n (Some h) is =
+    let s = sound_after law a.after in
+    let f = a.follows in
+    let e = allowed.smallest in
+    let m = turns_mid M law A s k e V f (step_finds M law A s k e V f allowed.copied) in
+    let d = head_of M law A s k e V f n h is in
+    leads_same M law A s k e V f n h d n (before_turn M V k n) (m n) ∙ sym (leads_same M law A s k e V f n h d 0 (before_turn M V k 0) (m 0)) ∙ ap (λ W. leads_in W n (Some h)) (before_first M V k)
 
 module _ (M : Meaning) (capacity : ℕ) (law : Law M) (V : View) (A : Account) (a : Accounted M capacity V A) (k : Key) (allowed : Allowed M capacity A k)
     (n : ℕ) (h : Held) (is : first (waiting n (with_key k V.held)) ≡ Some h) (leads : leads_in (before_turn M V k n) n (Some h) ≡ true) where

@@ -25,6 +25,11 @@ abbrev pub TurnsReady : Type 0
 TurnsReady = (M : Meaning) (capacity : ℕ) → Law M → capacity ≤ 4096 → (V : View) (A : Account) → Accounted M capacity V A → refusal_of M capacity V step ≡ None
     → (k : Key) (n : ℕ) (h : Held) → head_key V.held ≡ Some k → n < 16 → first (waiting n (with_key k V.held)) ≡ Some h → leads_in (before_turn M V k n) n (Some h) ≡ true → Ready M capacity (before_turn M V k n) h n
 
+-- who leads at its turn led before the first turn, and the other way round
+abbrev pub LeadersStay : Type 0
+LeadersStay = (M : Meaning) (capacity : ℕ) → Law M → (V : View) (A : Account) → Accounted M capacity V A → refusal_of M capacity V step ≡ None
+    → (k : Key) (n : ℕ) → head_key V.held ≡ Some k → leads_in (before_turn M V k n) n (first (waiting n (with_key k V.held))) ≡ leads_in V n (first (waiting n (with_key k V.held)))
+
 -- no more messages have the smallest key than there are variants
 abbrev pub HeadsFew : Type 0
 HeadsFew = (M : Meaning) (capacity : ℕ) → Law M → (V : View) (A : Account) → Accounted M capacity V A → (k : Key) → head_key V.held ≡ Some k → length (with_key k V.held) ≤ 16

@@ -4,7 +4,7 @@
 
 ghost use Rattle.follows.specs.Accounted.{AccountedAfter, AccountedAlike, AccountedAlways, AccountedBegun, AnswersAlike};
 ghost use Rattle.follows.specs.Claims.{AlikeFollows, CellsAreFound, CountsAgree, FollowsKept};
-ghost use Rattle.follows.specs.Ready.{HeadsFew, TurnsReady};
+ghost use Rattle.follows.specs.Ready.{HeadsFew, LeadersStay, TurnsReady};
 ghost use Rattle.follows.specs.Rooms.{FrontTaken, PutsAccepted, RoomIsFound};
 
 // After every call that is accepted the study goes on following.
@@ -70,6 +70,11 @@ pub fn front_taken()
 // Each group that runs in a step that is not refused can: its place can count what it sends, the study its executions, and the calendar has room.
 pub fn turns_ready()
     ensures { TurnsReady }
+{}
+
+// In a step that is not refused, its turns change nobody's leading before that one's own.
+pub fn leaders_stay()
+    ensures { LeadersStay }
 {}
 
 // No more messages have the smallest key than variants can be made.
