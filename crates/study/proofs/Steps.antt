@@ -17,13 +17,15 @@ use Rattle.account.specs.Account.{Account, step}
 use Rattle.account.specs.Refusals.{by_study, first_met}
 use Rattle.copies.specs.Sharing.{groups, shares, shares_stepped}
 use Rattle.follows.specs.View.{View}
-use Rattle.follows.specs.Steps.{group_of, with_key, without_key, head_key, leaders, leaders_at, took_all, turns, stepped, stepped_at, shares_after}
+use Rattle.follows.specs.Steps.{group_of, with_key, without_key, head_key, leads_in, leaders, leaders_at, took_all, turns, stepped, stepped_at, shares_after}
 use Rattle.follows.specs.Refusing.{refusal_of, step_cases, unloaded}
 use Rattle.follows.specs.Accounted.{Accounted}
-use Rattle.follows.proofs.Ready.{heads_few, turns_ready}
+use Rattle.follows.proofs.Ready.{heads_few, leaders_stay, turns_ready}
 use Rattle.follows.proofs.Fronts.{leading_with_key, take_heads, drop_heads}
-use Rattle.copies.specs.Executions.{executions as counted}
-use Rattle.study.specs.Turns.{TurnsReady, fault_by, receiver_of, step_fault}
+use Rattle.group.specs.declared.Group.{Group}
+use Rattle.group.specs.Groups.{has}
+use Rattle.copies.specs.Executions.{executions as counted, leads_message}
+use Rattle.study.specs.Turns.{Led, TurnsReady, fault_by, receiver_of, step_fault}
 use Rattle.std.proofs.Common.{Ok, Result}
 use Rattle.std.specs.Result.{IsErr, result_err}
 use Rattle.calendar.specs.Contents.{Contents, holding}
@@ -145,6 +147,16 @@ module _ (M : Meaning) (law : Law M) (capacity : ℕ) (V : View) (A : Account) (
           (subst (λ (W : View). TurnsReady M capacity (with_key k V.held) W) (sym (taken_some a.follows.messages.sorted k q))
           (λ v l x f lead. turns_ready M capacity law most V A a accepted k v x q l f lead))
 
+  -- and who leads now leads at its turn
+  pub step_led : refusal_of M capacity V step ≡ None → (who : Group) → ((v : ℕ) → has who v ≡ leads_message V.cell v (first (waiting v heads))) → Led M heads (taken_view V heads) who
+  step_led accepted who members = go (head_key V.held) refl
+    where
+      go : (o : Option Key) → head_key V.held ≡ o → Led M heads (taken_view V heads) who
+      go None q = λ v. members v ∙ (λ i. leads_message V.cell v (first (waiting v (heads_none q i)))) ∙ (λ i. leads_in (turns M heads (taken_view V heads) v) v (first (waiting v (sym (heads_none q) i))))
+      go (Some k) q = λ v.
+          members v ∙ (λ i. leads_in V v (first (waiting v (heads_some k q i)))) ∙ sym (leaders_stay M capacity law V A a accepted k v q)
+          ∙ (λ i. leads_in (turns M (sym (heads_some k q) i) (sym (taken_some a.follows.messages.sorted k q) i) v) v (first (waiting v (sym (heads_some k q) i))))
+
   -- and then all that the step leaves is left
   pub step_left : turns M heads (taken_view V heads) 16 ≡ stepped M V
   step_left = go (head_key V.held) refl
@@ -178,13 +190,14 @@ module _ {C M : Type 0} (contents : C → Contents) (meaning : M → Meaning) (l
       told_answers contents meaning law s step ran (Ok executions)
       (told_accepted contents meaning law s step ran executions (why A a None q) (ap ran (step_executions (meaning s.model) (law s.model) _ (view_of contents s) A a heads executions h e))) A a
 
-  pub step_keeps : (t : Study C M) → (contents s.calendar).room ≤ 4096 → step_fault_of ≡ None → SameParts contents s t
-      → (TurnsReady (meaning s.model) (contents s.calendar).room heads (taken_view (view_of contents s) heads) → view_of contents t ≡ turns (meaning s.model) heads (taken_view (view_of contents s) heads) 16) → Keeps contents meaning s step t
-  step_keeps t most q parts turned A a =
+  pub step_keeps : (t : Study C M) (who : Group) → ((v : ℕ) → has who v ≡ leads_message (cell_of s.copies) v (first (waiting v heads))) → (contents s.calendar).room ≤ 4096 → step_fault_of ≡ None → SameParts contents s t
+      → (TurnsReady (meaning s.model) (contents s.calendar).room heads (taken_view (view_of contents s) heads) → Led (meaning s.model) heads (taken_view (view_of contents s) heads) who → view_of contents t ≡ turns (meaning s.model) heads (taken_view (view_of contents s) heads) 16) → Keeps contents meaning s step t
+  step_keeps t who members most q parts turned A a =
       let M = meaning s.model in
       let V = view_of contents s in
       let ready = step_ready M (law s.model) _ V A a heads executions h e most (why A a None q) in
-      keeps_accepted contents meaning law s step t (why A a None q) parts (λ B b. alike_same M.places (stepped M V) (view_of contents t) (sym (turned ready ∙ step_left M (law s.model) _ V A a heads executions h e))) A a
+      let led = step_led M (law s.model) _ V A a heads executions h e (why A a None q) who members in
+      keeps_accepted contents meaning law s step t (why A a None q) parts (λ B b. alike_same M.places (stepped M V) (view_of contents t) (sym (turned ready led ∙ step_left M (law s.model) _ V A a heads executions h e))) A a
 
 -- what is held once the messages are taken
 pub view_taken : (old new : Contents) (register : Register) (cell : ℕ → ℕ → ℕ) (content : ℕ → Place) (entries entries' heads : List Held) (n : ℕ) → n ≡ length heads → new ≡ holding (drop n old.held) old → entries' ≡ entries ++ take n old.held

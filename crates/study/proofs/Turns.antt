@@ -1,9 +1,10 @@
 -- A group's run and the turns of a step, by what they leave.
-use Rattle.std.proofs.Common.{◌≡◌, ℕ, zero, suc, ◌+◌, ◌^◌, ◌<◌, ◌≤◌, ⊎_elim, Bool, min, true, false, ltb, ◌&&◌, List, length, sym, refl, ap, ◌∙◌, subst, add-one, arith}
+use Rattle.std.proofs.Common.{◌≡◌, ℕ, zero, suc, ◌+◌, ◌^◌, ◌<◌, ◌≤◌, ⊎_elim, Bool, min, true, false, ltb, ◌&&◌, List, length, Some, None, Option, sym, refl, ap, ◌∙◌, subst, add-one, arith}
 use Rattle.std.specs.Prelude.{if◌then◌else◌}
-use Rattle.std.proofs.lemmas.Bool.{cases_eq, cond-true, lt-ltb, and_from}
+use Rattle.std.proofs.lemmas.Bool.{cases_eq, cond-true, cond-false, lt-ltb, and_from}
 use Rattle.event.specs.Lists.{first}
 use Rattle.group.specs.declared.Group.{Group}
+use Rattle.group.specs.Groups.{has}
 use Rattle.calendar.specs.Contents.{Contents}
 use Rattle.calendar.specs.declared.Held.{Held}
 use Rattle.calendar.specs.Calls.{waiting}
@@ -11,19 +12,17 @@ use Rattle.model.specs.declared.Sends.{Sends}
 use Rattle.model.specs.Meaning.{Meaning, Law, listed}
 use Rattle.day.specs.declared.place.Place.{Place}
 use Rattle.day.specs.Day.{reaction, stamped, within, posted_by, place_after}
-use Rattle.copies.specs.Executions.{takes}
-use Rattle.copies.proofs.Leads.{no_message}
 use Rattle.copies.proofs.Members.{From, gap}
 use Rattle.copies.specs.Sharing.{sharers, target, move_cell, move_content}
 use Rattle.follows.specs.View.{View, put_all}
-use Rattle.follows.specs.Steps.{ran_group, turn_of, turns}
+use Rattle.follows.specs.Steps.{leads_in, ran_group, turn_of, turns}
 use Rattle.follows.specs.Rooms.{put_each}
 use Rattle.follows.proofs.Rooms.{puts_accepted}
 use Rattle.study.specs.declared.register.Register.{Register}
 use Rattle.study.specs.declared.Study.{Study}
 use Rattle.study.specs.Promises.{view_from, view_of, SameParts}
 use Rattle.follows.specs.Ready.{Ready}
-use Rattle.study.specs.Turns.{TurnReady, TurnsReady}
+use Rattle.study.specs.Turns.{Led, TurnReady, TurnsReady}
 
 -- one more run is counted
 pub counted : (n : ℕ) → n + 1 < 2 ^ 32 → min (n + 1) 4294967295 ≡ suc n
@@ -90,31 +89,45 @@ turns_more : (M : Meaning) (heads : List Held) (V : View) (n : ℕ) → turns M 
 unfolding turns
 turns_more M heads V n = ap (turns M heads V) (add-one n)
 
--- those that have no message do nothing in their turns
-turns_skip : (M : Meaning) (heads : List Held) (V : View) (n m : ℕ) → n ≤ m → ((w : ℕ) → n ≤ w → w < m → takes heads w ≡ false) → turns M heads V m ≡ turns M heads V n
+turn_idle : (M : Meaning) (V : View) (v : ℕ) (o : Option Held) → leads_in V v o ≡ false → turn_of M V v o ≡ V
+turn_idle M V v None e = refl
+turn_idle M V v (Some h) e = cond-false _ _ _ e
+
+-- and the group of one that leads runs
+pub turn_led : (M : Meaning) (capacity : ℕ) (heads : List Held) (V W : View) (v : ℕ) (h : Held) → first (waiting v heads) ≡ Some h → (Ready M capacity V h v → W ≡ ran_group M V h v)
+    → TurnReady M capacity heads V v → leads_in V v (first (waiting v heads)) ≡ true → W ≡ turn_of M V v (first (waiting v heads))
+turn_led M capacity heads V W v h is ran ready leads =
+    let led = subst (λ o. leads_in V v o ≡ true) is leads in
+    ran (ready h is led) ∙ sym (ap (turn_of M V v) is ∙ cond-true _ _ _ led)
+
+-- those that do not lead do nothing in their turns
+turns_skip : (M : Meaning) (heads : List Held) (V : View) (n m : ℕ) → n ≤ m → ((w : ℕ) → n ≤ w → w < m → leads_in (turns M heads V w) w (first (waiting w heads)) ≡ false) → turns M heads V m ≡ turns M heads V n
 unfolding turns
 turns_skip M heads V n zero l h = let e : 0 ≡ n = omega (arith, l) in ap (turns M heads V) e
 turns_skip M heads V n (suc m) l h = ⊎_elim
     (λ (e : n ≡ suc m). ap (turns M heads V) (sym e))
-    (λ (ne : n ≡ suc m → ⊥). let k : n ≤ m = omega (arith, ne, l) in ap (turn_of M (turns M heads V m) m) (no_message heads m (h m k (omega arith))) ∙ turns_skip M heads V n m k (λ w a b. h w a (omega (arith, b)))) (cases_eq n (suc m))
+    (λ (ne : n ≡ suc m → ⊥). let k : n ≤ m = omega (arith, ne, l) in turn_idle M (turns M heads V m) m (first (waiting m heads)) (h m k (omega arith)) ∙ turns_skip M heads V n m k (λ w a b. h w a (omega (arith, b)))) (cases_eq n (suc m))
 
 -- the turns of a study, one after the other
-module _ {C M : Type 0} (contents : C → Contents) (meaning : M → Meaning) (old : Study C M) where
+module _ {C M : Type 0} (contents : C → Contents) (meaning : M → Meaning) (old : Study C M) (leaders : Group) where
   abbrev pub Turned : Study C M → ℕ → Type 0
-  Turned s v = TurnsReady (meaning old.model) (contents old.calendar).room old.heads.items (view_of contents old) → view_of contents s ≡ turns (meaning old.model) old.heads.items (view_of contents old) v
+  Turned s v = TurnsReady (meaning old.model) (contents old.calendar).room old.heads.items (view_of contents old) → Led (meaning old.model) old.heads.items (view_of contents old) leaders
+      → view_of contents s ≡ turns (meaning old.model) old.heads.items (view_of contents old) v
 
   pub turned_none : Turned old 0
-  turned_none ready = sym (turns_zero (meaning old.model) old.heads.items (view_of contents old))
+  turned_none ready led = sym (turns_zero (meaning old.model) old.heads.items (view_of contents old))
 
-  pub turned_more : (s t : Study C M) (v : ℕ) → v < 16 → SameParts contents old s → s.heads ≡ old.heads → Turned s v
-      → (TurnReady (meaning s.model) (contents s.calendar).room s.heads.items (view_of contents s) v → view_of contents t ≡ turn_of (meaning s.model) (view_of contents s) v (first (waiting v s.heads.items))) → Turned t (v + 1)
-  turned_more s t v l same heads h turn ready =
-      let e = h ready in
+  pub turned_more : (s t : Study C M) (v : ℕ) → v < 16 → has leaders v ≡ true → SameParts contents old s → s.heads ≡ old.heads → Turned s v
+      → (TurnReady (meaning s.model) (contents s.calendar).room s.heads.items (view_of contents s) v → leads_in (view_of contents s) v (first (waiting v s.heads.items)) ≡ true
+        → view_of contents t ≡ turn_of (meaning s.model) (view_of contents s) v (first (waiting v s.heads.items))) → Turned t (v + 1)
+  turned_more s t v l member same heads h turn ready led =
+      let e = h ready led in
       turn (subst (λ (x : Meaning × ℕ × List Held × View). TurnReady x.0 x.1 x.2 x.3 v) (λ i. (meaning (sym same.model i), sym same.room i, (sym heads i).items, sym e i)) (ready v l))
+      ((λ i. leads_in (e i) v (first (waiting v (heads i).items))) ∙ sym (led v) ∙ member)
       ∙ (λ i. turn_of (meaning (same.model i)) (e i) v (first (waiting v (heads i).items)))
       ∙ sym (turns_more (meaning old.model) old.heads.items (view_of contents old) v)
 
-  -- up to the next that has a message, and to the end where none is left
-  pub turned_up : (s : Study C M) (rest : ℕ → Bool) (n m : ℕ) → From (takes old.heads.items) rest n → n ≤ m → ((w : ℕ) → w < m → rest w ≡ false) → Turned s n → Turned s m
-  turned_up s rest n m h l low turned ready =
-      turned ready ∙ sym (turns_skip (meaning old.model) old.heads.items (view_of contents old) n m l (λ w a b. gap (takes old.heads.items) rest n h w a (low w b)))
+  -- up to the next that leads, and to the end where none is left
+  pub turned_up : (s : Study C M) (rest : ℕ → Bool) (n m : ℕ) → From (has leaders) rest n → n ≤ m → ((w : ℕ) → w < m → rest w ≡ false) → Turned s n → Turned s m
+  turned_up s rest n m h l low turned ready led =
+      turned ready led ∙ sym (turns_skip (meaning old.model) old.heads.items (view_of contents old) n m l (λ w a b. sym (led w) ∙ gap (has leaders) rest n h w a (low w b)))

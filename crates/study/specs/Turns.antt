@@ -1,6 +1,8 @@
 -- When a step is refused, and when its turns can run.
 use Rattle.std.specs.Prelude.{◌≡◌, ℕ, ◌+◌, ◌*◌, ◌<◌, Bool, true, not, if◌then◌else◌, List, [], ◌∷◌, map, length, Some, None, Option, nat_lt}
 use Rattle.event.specs.Lists.{first}
+use Rattle.group.specs.declared.Group.{Group}
+use Rattle.group.specs.Groups.{has}
 use Rattle.calendar.specs.declared.Held.{Held}
 use Rattle.calendar.specs.Calls.{waiting}
 use Rattle.model.specs.Meaning.{Meaning}
@@ -17,6 +19,10 @@ TurnReady M capacity heads V v = (h : Held) → first (waiting v heads) ≡ Some
 
 abbrev pub TurnsReady : Meaning → ℕ → List Held → View → Type 0
 TurnsReady M capacity heads V = (v : ℕ) → v < 16 → TurnReady M capacity heads (turns M heads V v) v
+
+-- these are the variants that lead at their turns
+abbrev pub Led : Meaning → List Held → View → Group → Type 0
+Led M heads V leaders = (v : ℕ) → has leaders v ≡ leads_in (turns M heads V v) v (first (waiting v heads))
 
 -- the receiver of the first
 abbrev pub receiver_of : List Held → ℕ

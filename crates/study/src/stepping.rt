@@ -1,5 +1,5 @@
 // One step of a study: the messages with the smallest key are taken, and each group that has one runs it once.
-ghost use Rattle.std.specs.Prelude.{◌≡◌, ℕ, List, ◌+◌, ◌^◌, ◌<◌, ◌≤◌, ◌++◌, length, take, drop, false, is_ok, vec_len};
+ghost use Rattle.std.specs.Prelude.{◌≡◌, ℕ, List, ◌+◌, ◌^◌, ◌<◌, ◌≤◌, ◌++◌, length, take, drop, false, true, is_ok, vec_len};
 ghost use Rattle.std.specs.Result.{result_err};
 ghost use Rattle.account.specs.Account.{step};
 ghost use Rattle.account.specs.Answers.{ran};
@@ -7,21 +7,22 @@ ghost use Rattle.calendar.specs.Contents.{holding};
 ghost use Rattle.event.specs.Lists.{first};
 ghost use Rattle.calendar.specs.Calls.{waiting};
 ghost use Rattle.day.specs.Day.{reaction, place_after};
-ghost use Rattle.follows.specs.Steps.{ran_group, turn_of, turns};
+ghost use Rattle.follows.specs.Steps.{leads_in, ran_group, turn_of, turns};
 ghost use Rattle.event.specs.declared.Start.{Start};
 ghost use Rattle.study.specs.Plain.{NeverBranched};
 ghost use Rattle.study.specs.Promises.{Answers, Keeps, SameParts, SameHeld, view_of};
 ghost use Rattle.follows.specs.Ready.{Ready};
-ghost use Rattle.study.specs.Turns.{TurnReady, TurnsReady, step_fault};
+ghost use Rattle.study.specs.Turns.{Led, TurnReady, TurnsReady, step_fault};
 
 use crate::Study;
 use crate::fault::StudyFault;
 use crate::heads::find_heads;
 use crate::posting::Post;
 use calendar::{Calendar, Held};
-use copies::heads::{message_for, takers};
+use copies::heads::message_for;
 use day::Place;
 use event::Message;
+use group::Group;
 use journal::{ENTRIES, Journal};
 use model::{Model, Sends};
 
@@ -71,25 +72,23 @@ impl<C: Calendar, M: Model> Study<C, M> {
         self.register.executions = self.register.executions.saturating_add(1);
     }
 
-    // The turn of v: where it is the smallest of a group that runs a message, the group runs it.
+    // The turn of v, which leads: its group runs its message.
     fn run_turn(&mut self, v: u8)
-        ensures held { TurnReady (M.meaning self.old.model) (C.meaning self.old.calendar).room self.old.heads.items (view_of C.meaning self.old) v → view_of C.meaning self.new ≡ turn_of (M.meaning self.old.model) (view_of C.meaning self.old) v (first (waiting v self.old.heads.items)) }
+        ensures held { TurnReady (M.meaning self.old.model) (C.meaning self.old.calendar).room self.old.heads.items (view_of C.meaning self.old) v → leads_in (view_of C.meaning self.old) v (first (waiting v self.old.heads.items)) ≡ true → view_of C.meaning self.new ≡ turn_of (M.meaning self.old.model) (view_of C.meaning self.old) v (first (waiting v self.old.heads.items)) }
         ensures same { SameParts C.meaning self.old self.new }
         ensures heads { self.new.heads ≡ self.old.heads }
     {
-        if let Some(head) = message_for(&self.heads, v)
-            && self.copies.leads(head.group, head.message.receiver, v)
-        {
+        if let Some(head) = message_for(&self.heads, v) {
             self.run_group(&head, v);
         }
     }
 
-    // The turns of all variants, of which those that have no message do nothing.
-    fn run_turns(&mut self)
-        ensures held { TurnsReady (M.meaning self.old.model) (C.meaning self.old.calendar).room self.old.heads.items (view_of C.meaning self.old) → view_of C.meaning self.new ≡ turns (M.meaning self.old.model) self.old.heads.items (view_of C.meaning self.old) 16 }
+    // The turns of all variants, of which those that do not lead do nothing.
+    fn run_turns(&mut self, leaders: Group)
+        ensures held { TurnsReady (M.meaning self.old.model) (C.meaning self.old.calendar).room self.old.heads.items (view_of C.meaning self.old) → Led (M.meaning self.old.model) self.old.heads.items (view_of C.meaning self.old) leaders → view_of C.meaning self.new ≡ turns (M.meaning self.old.model) self.old.heads.items (view_of C.meaning self.old) 16 }
         ensures same { SameParts C.meaning self.old self.new }
     {
-        let mut rest = takers(&self.heads);
+        let mut rest = leaders;
         while let Some(v) = rest.least() {
             self.run_turn(v);
             rest = rest.without(v);
@@ -125,10 +124,11 @@ impl<C: Calendar, M: Model> Study<C, M> {
         ensures alone { (starts : List Start) (end : ℕ) → NeverBranched C.meaning M.meaning starts end self.old → NeverBranched C.meaning M.meaning starts end self.new }
     {
         find_heads(&self.calendar, &mut self.heads);
-        let executions = self.copies.executions(&self.heads);
+        let leaders = self.copies.leaders(&self.heads);
+        let executions = leaders.size();
         self.check_step(executions)?;
         take_heads(&mut self.calendar, &mut self.journal, self.heads.len());
-        self.run_turns();
+        self.run_turns(leaders);
         Ok(executions)
     }
 }
