@@ -3,13 +3,24 @@ use Rattle.std.proofs.Common.{◌≡◌, ℕ, ◌+◌, ◌*◌, ◌/◌, ◌<◌
 use Rattle.std.proofs.lemmas.Bool.{cases_lt, cases_Bool, and_parts, and_right, eqb-true, cond-true, cond-false, ltb-true, lt-ltb}
 use Rattle.std.proofs.lemmas.Bool.Decides.{nat_tests}
 use Rattle.std.proofs.lemmas.List.{get_or_past}
+use Rattle.group.specs.declared.Group.{Group}
+use Rattle.group.specs.Groups.{has}
 use Rattle.copies.specs.Rows.{Whole, cell_at}
 use Rattle.copies.specs.Sharing.{copy_cells}
 use Rattle.copies.specs.Starts.{starting_cell}
+use Rattle.copies.proofs.Members.{member_small}
 
 -- two functions of two numbers are one, if they are the same at any
 pub same_cells : (f g : ℕ → ℕ → ℕ) → ((v p : ℕ) → f v p ≡ g v p) → f ≡ g
 same_cells f g h = λ i v p. h v p i
+
+-- where all have the cell there, none has to go over
+pub have_it : (cell : ℕ → ℕ → ℕ) (group : Group) (p c : ℕ) → cell 0 p ≡ c → ((v : ℕ) → v < 16 → cell v p ≡ cell 0 p) → (w q : ℕ) → cell w q ≡ cond (has group w && eqb q p) c (cell w q)
+have_it cell group p c here all w q = ⊎_elim
+    (λ (e : (has group w && eqb q p) ≡ true).
+    let a = and_parts (has group w) (eqb q p) e in
+    ap (cell w) (eqb-true q p a.1) ∙ all w (member_small group w a.0) ∙ here ∙ sym (cond-true _ c (cell w q) e))
+    (λ (e : (has group w && eqb q p) ≡ false). sym (cond-false _ c (cell w q) e)) (cases_Bool (has group w && eqb q p))
 
 -- none of a group has gone over while all are left
 pub none_over : (g b : Bool) (c x : ℕ) → x ≡ cond ((g && not g) && b) c x

@@ -1,13 +1,22 @@
 -- Where all share, those that are live are one group.
-use Rattle.std.proofs.Common.{◌≡◌, ℕ, zero, suc, ◌+◌, ◌<◌, ◌≤◌, Bool, true, false, not, ◌&&◌, ◌||◌, sym, refl, ap, ◌∙◌, arith}
+use Rattle.std.proofs.Common.{◌≡◌, ℕ, zero, suc, ◌+◌, ◌*◌, ◌<◌, ◌≤◌, Bool, true, false, not, eqb, ltb, ◌&&◌, ◌||◌, List, length, get_or, sym, refl, ap, ◌∙◌, ⊎_elim, arith}
+use Rattle.std.proofs.lemmas.Bool.{cases_Bool, cases_lt, eq-eqb, eqb-true, or_parts}
+use Rattle.std.proofs.lemmas.Bool.Decides.{nat_tests}
+use Rattle.std.proofs.lemmas.Nat.{mul-le}
+use Rattle.std.proofs.lemmas.List.{get_or_past}
 use Rattle.group.specs.declared.Group.{Group}
-use Rattle.group.specs.Groups.{has}
+use Rattle.group.specs.Groups.{count, has}
 use Rattle.account.specs.Account.{any_below, ind, sum_below}
 use Rattle.account.specs.Groups.{leads}
 use Rattle.account.proofs.Bounds.{any_from}
 use Rattle.account.proofs.Leaders.{least_in, sum_first}
+use Rattle.copies.specs.declared.names.Names.{Names}
+use Rattle.copies.specs.Names.{cell_in}
+use Rattle.copies.specs.Sharing.{groups}
 use Rattle.copies.specs.Tests.{AllShare}
+use Rattle.copies.proofs.Leads.{few_lead}
 use Rattle.copies.proofs.Members.{member_small}
+use Rattle.copies.proofs.Rows.{cell_past, whole_cells}
 use Rattle.copies.proofs.Numbers.{ind_few}
 
 any_alike : (f g : ℕ → Bool) (n : ℕ) → ((w : ℕ) → w < n → f w ≡ g w) → any_below f n ≡ any_below g n
@@ -41,6 +50,65 @@ pub one_unless_empty : (live : Group) (empty : Bool) → (empty ≡ true → (w 
 one_unless_empty live true none some = sym (ap ind (none_below (has live) 16 (none refl)))
 one_unless_empty live false none some = let r = some refl in sym (ap ind (any_from (has live) 16 r.0 (member_small live r.0 r.1) r.1))
 
--- so no more than one
-pub one_most : (live : Group) (share : ℕ → ℕ → Bool) → AllShare share → sum_below (λ v. ind (leads (has live) share v)) 16 ≤ 1
-one_most live share all = let e = one_group live share all in let n = ind_few (any_below (has live) 16) in omega (arith, e, n)
+pub not_not : (b : Bool) → not (not b) ≡ b
+not_not true = refl
+not_not false = refl
+
+-- so no more than one there, and one for each that is live elsewhere
+place_most : (live : Group) (share : ℕ → ℕ → Bool) (parted here : Bool) → ((parted || here) ≡ false → AllShare share) → sum_below (λ v. ind (leads (has live) share v)) 16 ≤ 1 + (ind parted + ind here) * count (has live) 16
+place_most live share true here whole = let a = few_lead (has live) share 16 in grind (arith, a)
+place_most live share false true whole = let a = few_lead (has live) share 16 in grind (arith, a)
+place_most live share false false whole = let e = one_group live share (whole refl) in let n = ind_few (any_below (has live) 16) in omega (arith, e, n)
+
+groups_most : (live : Group) (share : ℕ → ℕ → ℕ → Bool) (parted here : ℕ → Bool) (n : ℕ) → ((p : ℕ) → (parted p || here p) ≡ false → AllShare (share p))
+    → groups n live share ≤ n + (sum_below (λ p. ind (parted p)) n + sum_below (λ p. ind (here p)) n) * count (has live) 16
+unfolding sum_below
+groups_most live share parted here zero whole = omega arith
+groups_most live share parted here (suc n) whole =
+    let a = groups_most live share parted here n whole in
+    let b = place_most live (share n) (parted n) (here n) (whole n) in
+    grind (arith, a, b)
+
+none_here : (place n : ℕ) → n ≤ place → sum_below (λ p. ind (eqb p place)) n ≡ 0
+unfolding sum_below
+none_here place zero l = refl
+none_here place (suc n) l = let a = none_here place n (omega (arith, l)) in let e : eqb n place ≡ false = grind (arith, nat_tests) in let b = ap ind e in omega (arith, a, b)
+
+-- a place is one place
+one_here : (place n : ℕ) → sum_below (λ p. ind (eqb p place)) n ≤ 1
+unfolding sum_below
+one_here place zero = omega arith
+one_here place (suc n) = ⊎_elim
+    (λ (e : eqb n place ≡ true). let a = none_here place n (let q = eqb-true n place e in omega (arith, q)) in let b = ind_few (eqb n place) in omega (arith, a, b))
+    (λ (e : eqb n place ≡ false). let a = one_here place n in let b = ap ind e in omega (arith, a, b)) (cases_Bool (eqb n place))
+
+sum_up : (f : ℕ → ℕ) (n m : ℕ) → n ≤ m → sum_below f n ≤ sum_below f m
+unfolding sum_below
+sum_up f n zero l = let e : n ≡ 0 = omega (arith, l) in let a = ap (sum_below f) e in omega (arith, a)
+sum_up f n (suc m) l = ⊎_elim
+    (λ (k : n < suc m). let a = sum_up f n m (omega (arith, k)) in omega (arith, a))
+    (λ (k : suc m ≤ n). let e : n ≡ suc m = omega (arith, k, l) in let a = ap (sum_below f) e in omega (arith, a)) (cases_lt n (suc m))
+
+-- no place past the last is parted
+parted_most : (parted : List Bool) (m n : ℕ) → length parted ≤ m → sum_below (λ p. ind (get_or parted p false)) n ≤ sum_below (λ p. ind (get_or parted p false)) m
+unfolding sum_below
+parted_most parted m zero l = omega arith
+parted_most parted m (suc n) l = ⊎_elim
+    (λ (k : n < m). sum_up (λ p. ind (get_or parted p false)) (suc n) m (omega (arith, k)))
+    (λ (k : m ≤ n). let a = parted_most parted m n l in let b = ap ind (get_or_past parted n false (omega (arith, k, l))) in omega (arith, a, b)) (cases_lt n m)
+
+-- no more groups than this, where all share at each place that is neither parted nor this one
+pub most : (live : Group) (share : ℕ → ℕ → ℕ → Bool) (parted : List Bool) (place places tally told : ℕ) → length parted ≤ 32 → ((p : ℕ) → eqb p place ≡ false → get_or parted p false ≡ false → AllShare (share p))
+    → tally ≡ sum_below (λ p. ind (get_or parted p false)) 32 → told ≡ places + (tally + 1) * count (has live) 16 → groups places live share ≤ told
+most live share parted place places tally told l whole t e =
+    let a = groups_most live share (λ p. get_or parted p false) (λ p. eqb p place) places (λ p w. let d = or_parts (get_or parted p false) (eqb p place) w in whole p d.1 d.0) in
+    let b = parted_most parted 32 places l in
+    let d = one_here place places in
+    let m = mul-le (sum_below (λ p. ind (get_or parted p false)) places + sum_below (λ p. ind (eqb p place)) places) (count (has live) 16) (tally + 1) (count (has live) 16) (omega (arith, b, d, t)) (omega arith) in
+    omega (arith, a, m, e)
+
+-- all share a place that is not parted
+pub whole_shared : (names : Names) (p : ℕ) → get_or names.parted p false ≡ false → AllShare (λ x y. eqb (cell_in names x p) (cell_in names y p))
+whole_shared names p e x y l m = eq-eqb _ _ (⊎_elim
+    (λ (k : p < 32). whole_cells names.rows p (names.whole p k e) x y l m)
+    (λ (k : 32 ≤ p). let past : ltb p 32 ≡ false = grind (arith, nat_tests) in cell_past names.rows x p past ∙ sym (cell_past names.rows y p past)) (cases_lt p 32))

@@ -52,26 +52,6 @@ fn count_groups<W: Fn(u8) -> bool, F: Fn(u8, u8, u8) -> bool>(
     groups
 }
 
-// No more groups than this at a place: one where it is whole, else one for each that is live.
-fn most_at(live: Group, whole: bool) -> u32
-    ensures most { (share : ℕ → ℕ → Bool) → (whole ≡ true → AllShare share) → sum_below (λ v. ind (leads (has live) share v)) 16 ≤ result }
-    ensures few { result ≤ 16 }
-{
-    if whole { 1 } else { live.size() }
-}
-
-// And no more than this over all places, of which some are whole.
-fn most_groups<W: Fn(u8) -> bool>(live: Group, places: u8, whole: W) -> u32
-    requires { W.IsAlwaysCallable whole }
-    ensures { (f : ℕ → ℕ → ℕ → Bool) → TellsWhole (W.post whole) f → groups places live f ≤ result }
-{
-    let mut most = 0;
-    for p in 0..places {
-        most += most_at(live, whole(p));
-    }
-    most
-}
-
 // Whether an order for v at a place tells two variants apart at the place p.
 fn tells_apart(v: u8, place: u8, p: u8, x: u8, y: u8) -> bool
     ensures { result ≡ (p == place && (not (x == y) && (x == v || y == v))) }
@@ -101,12 +81,12 @@ impl Copies {
         p != other && self.is_whole(p)
     }
 
-    // No more groups than this once messages have run at the place, or a variant was given an order there.
+    // No more groups than this once messages have run at the place, or a variant was given an order there: one at each place, and one more for each variant at this place and at those where variants may have different cells.
     pub fn most_groups(&self, live: Group, places: u8, place: u8) -> u32
         ensures stepped { (heads : List Group) → groups places live (shares_stepped (cell_of self.now) heads place) ≤ result }
         ensures decided { (v : ℕ) → groups places live (shares_decided (cell_of self.now) v place) ≤ result }
     {
-        most_groups(live, places, |p| self.is_whole_but(place, p))
+        u32::from(places) + (self.names.parted_places() + 1) * live.size()
     }
 
     // The copies in use: one for each group, at each place.

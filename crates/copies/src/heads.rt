@@ -40,7 +40,9 @@ impl Copies {
         let mut leaders = Group::empty();
         let mut seen = Group::empty();
         for h in heads {
-            let others = self.leaders_of(h.group, h.message.receiver).difference(seen);
+            let others = self
+                .leaders_of(h.group, h.message.receiver)
+                .difference(seen);
             leaders = leaders.union(others);
             seen = seen.union(h.group);
         }

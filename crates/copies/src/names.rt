@@ -1,9 +1,11 @@
 // The table of names: which cell each variant has at each place.
-ghost use Rattle.std.specs.Prelude.{◌≡◌, ℕ, ◌&&◌, ◌+◌, ◌*◌, ◌/◌, ◌<◌, length, ◌==◌, false, true, nat_lt, if◌then◌else◌, slice_index_or};
+ghost use Rattle.std.specs.Prelude.{◌≡◌, ℕ, not, ◌&&◌, ◌+◌, ◌*◌, ◌/◌, ◌<◌, ◌≤◌, length, ◌==◌, false, true, nat_lt, if◌then◌else◌, slice_index_or};
+ghost use Rattle.account.specs.Account.{ind, sum_below};
 ghost use Rattle.copies.specs.Rows.{Whole};
 ghost use Rattle.copies.specs.Sharing.{copy_cells, move_cell};
 ghost use Rattle.copies.specs.Starts.{starting_cell};
 
+use crate::below::count;
 use group::{Group, VARIANTS};
 use std::array;
 
@@ -66,9 +68,18 @@ impl Names {
 
     // Where it tells so, all variants have one cell at the place p.
     pub(crate) fn is_whole(&self, p: u8) -> bool
-        ensures { result ≡ true → (v w : ℕ) → v < 16 → w < 16 → cell_in self.now v p ≡ cell_in self.now w p }
+        ensures whole { result ≡ true → (v w : ℕ) → v < 16 → w < 16 → cell_in self.now v p ≡ cell_in self.now w p }
+        ensures told { result ≡ not (slice_index_or self.now.parted p false) }
     {
         p >= PLACES || !self.parted[usize::from(p)]
+    }
+
+    // At how many places it does not tell so.
+    pub(crate) fn parted_places(&self) -> u32
+        ensures value { result ≡ sum_below (λ p. ind (slice_index_or self.now.parted p false)) 32 }
+        ensures few { result ≤ 32 }
+    {
+        count(PLACES, |p| !self.is_whole(p))
     }
 
     // The child has its parent's cells.
@@ -101,6 +112,9 @@ impl Names {
         requires cell { c < 128 }
         ensures { cell_in self.new ≡ move_cell (cell_in self.old) group p c }
     {
+        if self.is_whole(p) && self.cell(0, p) == c {
+            return;
+        }
         let mut rest = group;
         while let Some(v) = rest.least() {
             self.set(v, p, c);

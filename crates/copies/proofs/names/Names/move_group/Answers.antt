@@ -1,9 +1,9 @@
 -- The smallest that is left goes over, and at the end all of the group have.
-use Rattle.std.proofs.Common.{◌≡◌, ℕ, ◌<◌, true, false, ◌&&◌, not, cond, eqb, ap, ◌∙◌, sym}
+use Rattle.std.proofs.Common.{◌≡◌, ℕ, ◌<◌, true, false, ◌&&◌, not, cond, eqb, ap, ◌∙◌, sym, arith, rules}
 use Rattle.group.specs.Groups.{has}
 use Rattle.copies.specs.Names.{cell_in}
 use Rattle.copies.specs.Sharing.{move_cell}
-use Rattle.copies.proofs.Rows.{same_cells, none_over, one_over, all_over}
+use Rattle.copies.proofs.Rows.{same_cells, have_it, none_over, one_over, all_over}
 use Rattle.copies.proofs.Members.{fewer, member_small, left_by, gone}
 use Rattle.copies.proofs.names.Names.move_group.Goals as goal
 
@@ -37,6 +37,14 @@ returns c =
     let p = c.args.p in
     let old = cell_in c.args.self.now in
     same_cells _ (move_cell old g p c.args.c) (λ w q. c.loop-v.invariant.cells w q ∙ all_over (has g w) (has c.loop-v.rest w) (eqb q p) c.args.c (old w q) (none w))
+
+pub returns-then-cell-c : goal.returns-then-cell-c
+returns-then-cell-c c =
+    let p = c.args.p in
+    let old = cell_in c.args.self.now in
+    let here : cell_in c.args.self.now 0 c.args.p ≡ c.args.c = search rules in
+    let told : c.is_whole.result ≡ true = search rules in
+    same_cells old (move_cell old c.args.group p c.args.c) (λ w q. have_it old c.args.group p c.args.c here (λ v l. c.is_whole.ensures.whole told v 0 l (omega arith)) w q)
 
 pub set-requires-clause-variant : goal.set-requires-clause-variant
 set-requires-clause-variant c =

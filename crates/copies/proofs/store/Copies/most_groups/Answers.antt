@@ -1,21 +1,40 @@
 -- At other places than this one, all that share go on to share.
-use Rattle.std.proofs.Common.{◌≡◌, true, false, eqb, not, ◌||◌, ◌&&◌, ap, rules}
+use Rattle.std.proofs.Common.{◌+◌, ◌≤◌, eqb, not, ◌||◌, ◌&&◌, length, ap, rules, arith}
 use Rattle.std.proofs.lemmas.Bool.{and_from}
+use Rattle.std.proofs.lemmas.Nat.{mul-le}
+use Rattle.group.specs.Groups.{has}
+use Rattle.copies.proofs.Leads.{few_counted}
 use Rattle.copies.specs.Cells.{cell_of}
 use Rattle.copies.specs.Sharing.{shares, shares_decided, shares_stepped, together}
-use Rattle.copies.specs.Tests.{AllShare}
+use Rattle.copies.proofs.Wholes.{most, whole_shared}
 use Rattle.copies.proofs.store.Copies.most_groups.Goals as goal
 
 pub returns-clause-stepped : goal.returns-clause-stepped
 returns-clause-stepped c =
+    let names = c.args.self.now.names in
     let cell = cell_of c.args.self.now in
-    λ heads. c.most_groups.ensures (shares_stepped cell heads c.args.place) (λ p r d e.
-    let w : r ≡ true → (eqb p c.args.place ≡ false) × AllShare (shares (cell_of c.args.self.now) p) = search rules in
-    λ x y l m. and_from (shares cell p x y) _ ((w e).1 x y l m) (ap (λ b. not b || together heads x y) (w e).0))
+    let l : length c.args.self.now.names.parted ≤ 32 = search (rules, arith) in
+    λ heads. most c.args.live (shares_stepped cell heads c.args.place) names.parted c.args.place c.args.places c.parted_places.result _ l
+    (λ p e k x y a b. and_from (shares cell p x y) _ (whole_shared names p k x y a b) (ap (λ d. not d || together heads x y) e)) c.parted_places.ensures.value (search rules)
 
 pub returns-clause-decided : goal.returns-clause-decided
 returns-clause-decided c =
+    let names = c.args.self.now.names in
     let cell = cell_of c.args.self.now in
-    λ v. c.most_groups.ensures (shares_decided cell v c.args.place) (λ p r d e.
-    let w : r ≡ true → (eqb p c.args.place ≡ false) × AllShare (shares (cell_of c.args.self.now) p) = search rules in
-    λ x y l m. and_from (shares cell p x y) _ ((w e).1 x y l m) (ap (λ b. not (b && (not (eqb x y) && (eqb x v || eqb y v)))) (w e).0))
+    let l : length c.args.self.now.names.parted ≤ 32 = search (rules, arith) in
+    λ v. most c.args.live (shares_decided cell v c.args.place) names.parted c.args.place c.args.places c.parted_places.result _ l
+    (λ p e k x y a b. and_from (shares cell p x y) _ (whole_shared names p k x y a b) (ap (λ d. not (d && (not (eqb x y) && (eqb x v || eqb y v)))) e)) c.parted_places.ensures.value (search rules)
+
+pub overflow_mul-result : goal.overflow_mul-result
+overflow_mul-result c =
+    let n = few_counted (has c.args.live) 16 in
+    let a = c.parted_places.ensures.few in
+    let d = mul-le (c.parted_places.result + 1) c.size.result 33 16 (omega (arith, a)) (omega (arith, n, c.size.ensures)) in
+    search (rules, d)
+
+pub overflow_add-result-2 : goal.overflow_add-result-2
+overflow_add-result-2 c =
+    let n = few_counted (has c.args.live) 16 in
+    let a = c.parted_places.ensures.few in
+    let d = mul-le (c.parted_places.result + 1) c.size.result 33 16 (omega (arith, a)) (omega (arith, n, c.size.ensures)) in
+    search (rules, d)
