@@ -1,5 +1,5 @@
 -- The day of a plan on a study in all its variants.
-use Rattle.std.specs.Prelude.{◌≡◌, ◌⊎◌, ℕ, List, [], ◌∷◌, ◌++◌, ◌<◌, map, length, false, None, Some, Ok, MatchOption, slice_get, slice_index_or, vec_items}
+use Rattle.std.specs.Prelude.{◌≡◌, ◌≢◌, ◌⊎◌, ℕ, zero, suc, List, [], ◌∷◌, ◌++◌, ◌<◌, map, length, false, None, Some, Ok, MatchOption, slice_get, slice_index_or, vec_items}
 use Rattle.account.specs.Account.{step, reading, next_of}
 use Rattle.account.specs.Answers.{waits}
 use Rattle.collection.specs.declared.Collection.{Collection}
@@ -8,6 +8,8 @@ use Rattle.dayfile.specs.declared.plan.Plan.{Plan}
 use Rattle.dispatch.specs.declared.course.Course.{Course}
 use Rattle.dispatch.specs.declared.course.Event.{Event}
 use Rattle.dispatch.specs.declared.course.Poised.{Poised}
+use Rattle.dispatch.specs.declared.course.Step.{Step}
+use Rattle.dispatch.specs.declared.course.Step.TheVariants.{Over, Planned, Tried}
 use Rattle.dispatch.specs.Readings.{HasRun, IsOwn, IsTakenOver, NothingNext, RunsNext}
 use Rattle.dispatch.specs.declared.course.Variant.{Variant}
 use Rattle.event.specs.Keys.{before, key_of}
@@ -29,6 +31,12 @@ pub record Loaded (m : Collection) (plan : Plan) (c : Course) : Type 0 where
   pub study : NeverBranched contents_of (λ x. meaning_of x.farms x.tankers) (map (λ x. x.start) (vec_items plan.milkings)) plan.«end» c.study
   pub variants : vec_items c.variants ≡ record { number = 0; trial = None } ∷ []
   pub partings : vec_items c.partings ≡ []
+
+-- the same study, model and variants
+pub record SameDay (c d : Course) : Type 0 where
+  pub study : d.study ≡ c.study
+  pub model : d.model ≡ c.model
+  pub variants : d.variants ≡ c.variants
 
 -- so v is told to stand before a step that works the place p
 pub record IsPoised (s : Study HeapCalendar Collection) (m : Collection) (v p : ℕ) (before : Poised) : Type 0 where
@@ -80,10 +88,15 @@ pub record WorksNext (s : Study HeapCalendar Collection) (xs : List Variant) (p 
   pub least : IsLeast s xs (length xs) key
   pub place : p ≡ key.receiver
 
--- the variant has run this many events by now, and what it was to run
+-- the variant has run this many events by now, which is more or less than before, and what it was to run
 pub record IsEventOf (s : Study HeapCalendar Collection) (before : Poised) (e : Event) : Type 0 where
   pub number : HasRun s before.number e.number
+  pub other : e.number ≢ before.events
   pub ran : before.next ≡ Some e.ran
+
+-- the variant has run as many events as before, or was to run nothing
+abbrev pub RanNothing : Study HeapCalendar Collection → Poised → Type 0
+RanNothing s before = HasRun s before.number before.events ⊎ (before.next ≡ None)
 
 -- the event of a variant as a cause
 pub record PartsBy (s : Study HeapCalendar Collection) (m : Collection) (before : Poised) (c : Cause) : Type 0 where
@@ -91,9 +104,14 @@ pub record PartsBy (s : Study HeapCalendar Collection) (m : Collection) (before 
   pub of : IsEventOf s before event
   pub cause : c ≡ of_event before.number event.number (record { time = event.ran.message.time; deed = deed_of m.farms m.tankers event.ran })
 
--- the event of the variant itself, or of the one that it shared the place with
+-- the event of the variant itself, or, if it ran nothing, of the one that it shared the place with
 abbrev pub CausedBy : Study HeapCalendar Collection → Collection → List Poised → Poised → ℕ → Cause → Type 0
-CausedBy s m all before giver c = PartsBy s m before c ⊎ ((other : Poised) × (slice_get all giver ≡ Some other) × PartsBy s m other c)
+CausedBy s m all before giver c = PartsBy s m before c ⊎ (RanNothing s before × (other : Poised) × (slice_get all giver ≡ Some other) × PartsBy s m other c)
+
+-- neither of them ran anything
+pub record NeitherRan (s : Study HeapCalendar Collection) (all : List Poised) (before : Poised) (giver : ℕ) : Type 0 where
+  pub own : RanNothing s before
+  pub other : (x : Poised) → slice_get all giver ≡ Some x → RanNothing s x
 
 -- the place that the variant shared with a smaller one is shared with none now, and the reason is listed
 pub record AddsParting (s : Study HeapCalendar Collection) (m : Collection) (all : List Poised) (before : Poised) (p : ℕ) (old new : List Parting) : Type 0 where
@@ -103,6 +121,33 @@ pub record AddsParting (s : Study HeapCalendar Collection) (m : Collection) (all
   pub cause : Cause
   pub because : CausedBy s m all before giver cause
   pub added : new ≡ old ++ record { variant = before.number; place = p; cause = cause } ∷ []
+
+-- no reason is to be listed: the place was the variant's own before, or it is shared with a smaller one still, or nothing ran that could be the reason
+abbrev pub NothingParts : Study HeapCalendar Collection → List Poised → Poised → ℕ → Type 0
+NothingParts s all before p = (before.giver ≡ None) ⊎ (((w : ℕ) × IsTakenOver s before.number p w) ⊎ ((giver : ℕ) × (before.giver ≡ Some giver) × NeitherRan s all before giver))
+
+-- the reason is listed, if there is one
+abbrev pub Noted : Study HeapCalendar Collection → Collection → List Poised → Poised → ℕ → List Parting → List Parting → Type 0
+Noted s m all before p old new = ((new ≡ old) × NothingParts s all before p) ⊎ AddsParting s m all before p old new
+
+-- those of the first n variants are, one after the other
+unfoldable pub NotedFirst : Study HeapCalendar Collection → Collection → List Poised → ℕ → ℕ → List Parting → List Parting → Type 0
+NotedFirst s m all p zero old new = new ≡ old
+NotedFirst s m all p (suc n) old new = (mid : List Parting) × NotedFirst s m all p n old mid × Noted s m all (slice_index_or all n blank_poised) p mid new
+
+-- a step has worked a place, and what has parted it is noted
+pub record Worked (c d : Course) : Type 0 where
+  pub place : ℕ
+  pub all : List Poised
+  pub next : WorksNext c.study (vec_items c.variants) place
+  pub stood : PoisesFirst c.study c.model (vec_items c.variants) place (length (vec_items c.variants)) all
+  pub noted : NotedFirst d.study c.model all place (length all) (vec_items c.partings) (vec_items d.partings)
+
+-- what a step was: nothing waited, or the first variant ran its event, or it ran nothing
+abbrev pub Was : Course → Course → Step → Type 0
+Was c d Over = NothingWaits c.study (vec_items c.variants) (length (vec_items c.variants))
+Was c d (Planned e) = (x : Worked c d) × (planned : Poised) × (slice_get x.all 0 ≡ Some planned) × IsEventOf d.study planned e
+Was c d Tried = (x : Worked c d) × ((planned : Poised) → slice_get x.all 0 ≡ Some planned → RanNothing d.study planned)
 
 -- the study has been told of a step, or is as it was
 abbrev pub Stepped : Study HeapCalendar Collection → Study HeapCalendar Collection → Type 0

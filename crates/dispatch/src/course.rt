@@ -1,5 +1,5 @@
 // The day of a plan on a study in all its variants, step by step.
-ghost use Rattle.std.specs.Prelude.{◌≡◌, ◌⊎◌, [], ◌∷◌, ◌++◌, IfOk, IfSome, MatchOption, OnOk, None, Some, length};
+ghost use Rattle.std.specs.Prelude.{◌≡◌, [], ◌∷◌, ◌++◌, IfOk, MatchOption, OnOk, None, Some, length};
 ghost use Rattle.collection.specs.Choice.{order_of};
 ghost use Rattle.report.specs.Deeds.{deed_of};
 ghost use Rattle.sheet.specs.declared.standing.Cause.TheVariants.{Order};
@@ -87,7 +87,7 @@ fn least_with(least: Option<Key>, next: Option<Message>) -> Option<Key>
 }
 
 impl Course {
-    ghost use Rattle.dispatch.specs.Courses.{AddsParting, CausedBy, IsEventOf, IsPoised, Loaded, NothingWaits, PartsBy, PoisesFirst, Stepped, WorksNext};
+    ghost use Rattle.dispatch.specs.Courses.{CausedBy, IsEventOf, IsPoised, Loaded, NeitherRan, Noted, NotedFirst, NothingWaits, PartsBy, PoisesFirst, RanNothing, SameDay, Stepped, Was, WorksNext};
 
     // The day of a plan, with its one variant.
     pub(crate) fn new(heap: Global, model: Collection, plan: &Plan) -> Result<Course, StudyFault>
@@ -174,7 +174,7 @@ impl Course {
 
     // The event that a variant has run in a step, if it ran.
     fn event(&self, before: &Poised) -> Result<Option<Event>, StudyFault>
-        ensures { IfOk result (λ event. IfSome event (IsEventOf self.now.study before.now)) }
+        ensures { IfOk result (λ event. MatchOption event (RanNothing self.now.study before.now) (IsEventOf self.now.study before.now)) }
     {
         let number = self.study.events(before.number)?;
         if number == before.events {
@@ -185,7 +185,7 @@ impl Course {
 
     // The event of a step as a cause, if the variant ran.
     fn cause(&self, before: &Poised) -> Result<Option<Cause>, StudyFault>
-        ensures { IfOk result (λ cause. IfSome cause (PartsBy self.now.study self.now.model before.now)) }
+        ensures { IfOk result (λ cause. MatchOption cause (RanNothing self.now.study before.now) (PartsBy self.now.study self.now.model before.now)) }
     {
         let event = self.event(before)?;
         Ok(event.map(|event| Cause::Event {
@@ -202,7 +202,7 @@ impl Course {
         before: &Poised,
         giver: u8,
     ) -> Result<Option<Cause>, StudyFault>
-        ensures { IfOk result (λ cause. IfSome cause (CausedBy self.now.study self.now.model all.now before.now giver)) }
+        ensures { IfOk result (λ cause. MatchOption cause (NeitherRan self.now.study all.now before.now giver) (CausedBy self.now.study self.now.model all.now before.now giver)) }
     {
         if let Some(cause) = self.cause(before)? {
             return Ok(Some(cause));
@@ -215,8 +215,8 @@ impl Course {
 
     // Notes what has parted the place of a variant, if the step has.
     fn note(&mut self, all: &[Poised], before: &Poised, place: u8) -> Result<(), StudyFault>
-        ensures same { self.new.study ≡ self.old.study }
-        ensures noted { OnOk result ((self.new.partings.items ≡ self.old.partings.items) ⊎ AddsParting self.old.study self.old.model all.now before.now place self.old.partings.items self.new.partings.items) }
+        ensures same { SameDay self.old self.new }
+        ensures noted { OnOk result (Noted self.old.study self.old.model all.now before.now place self.old.partings.items self.new.partings.items) }
     {
         let Some(giver) = before.giver else {
             return Ok(());
@@ -237,7 +237,8 @@ impl Course {
 
     // Notes what has parted places in a step.
     fn note_all(&mut self, all: &[Poised], place: u8) -> Result<(), StudyFault>
-        ensures { self.new.study ≡ self.old.study }
+        ensures same { SameDay self.old self.new }
+        ensures noted { OnOk result (NotedFirst self.old.study self.old.model all.now place (length all.now) self.old.partings.items self.new.partings.items) }
     {
         for before in all {
             self.note(all, before, place)?;
@@ -247,7 +248,8 @@ impl Course {
 
     // The messages with the smallest key are run in every variant that has one.
     pub(crate) fn step(&mut self, heap: Global) -> Result<Step, StudyFault>
-        ensures { Stepped self.old.study self.new.study }
+        ensures stepped { Stepped self.old.study self.new.study }
+        ensures told { IfOk result (Was self.old self.new) }
     {
         let Some(place) = self.next_place()? else {
             return Ok(Step::Over);
