@@ -191,7 +191,6 @@ fn measure(kind: Kind, plan: Plan) -> Row {
     let none = Plan {
         steps_before: 0,
         steps_after: 0,
-        variants: 1,
         ..plan
     };
     let nothing = Figures::default();
@@ -248,11 +247,11 @@ fn micros(time: Duration) -> f64 {
     time.as_nanos() as f64 / 1000.0
 }
 
-/// The time of a step of the study, and of an event in Rust, in nanoseconds; the making is taken off.
-fn per_step(row: &Row, variants: u8) -> (f64, f64) {
+/// The time of a step of the study, and of an event in Rust, in nanoseconds; the making and the branching are taken off.
+fn per_step(row: &Row) -> (f64, f64) {
     let events = row.told.events.iter().sum::<usize>() as u32;
     let study = micros(row.study) - micros(row.made);
-    let rust = micros(row.rust) - f64::from(variants) * micros(row.rust_made);
+    let rust = micros(row.rust) - micros(row.rust_made);
     (
         1000.0 * study / f64::from(row.told.steps),
         1000.0 * rust / f64::from(events),
@@ -278,7 +277,7 @@ fn never_branched(book: &mut Book) {
     book.say(format!("calendar   study us  (making us)   ns/step   Rust us  ns/event   events/s   study/Rust"));
     for (name, buckets) in NAMES {
         let row = book.measure(Kind::Phold, Plan { buckets, ..PHOLD });
-        let (step, event) = per_step(&row, 1);
+        let (step, event) = per_step(&row);
         book.say(format!(
             "{name:8} {:10.1} {:12.1} {step:9.0} {:9.1} {event:9.0} {:10.0} {:12.2}",
             micros(row.study),
@@ -365,7 +364,7 @@ fn growth(book: &mut Book) {
                     ..PHOLD
                 },
             );
-            let (step, event) = per_step(&row, 1);
+            let (step, event) = per_step(&row);
             book.say(format!("{name:8} {starts:5} {step:9.0} {event:15.0}"));
         }
     }
@@ -381,7 +380,7 @@ fn growth(book: &mut Book) {
                 ..PHOLD
             };
             let row = book.measure(Kind::Phold, plan);
-            let (step, _) = per_step(&row, variants);
+            let (step, _) = per_step(&row);
             book.say(format!("{name:8} {variants:5} {step:9.0}"));
         }
     }
