@@ -1,9 +1,8 @@
--- The first slots of the buckets.
-use Rattle.std.proofs.Common.{◌≡◌, ℕ, zero, suc, ◌+◌, ◌<◌, Bool, true, false, cond, List, [], ◌∷◌, ◌++◌, length, get_or, take, set, Some, None, Option, filter, sym, refl, ap, ◌∙◌, subst, ⊎_elim, arith, get_or-set_other, get_or-set_same}
-use Rattle.std.specs.List.{AllByRecursion, filter_map}
+-- The first slots of the buckets, and the first of all.
+use Rattle.std.proofs.Common.{◌≡◌, ℕ, zero, suc, ◌<◌, Bool, true, false, cond, List, [], ◌∷◌, length, map, get_or, Some, None, Option, filter, sym, refl, ap, ◌∙◌, arith}
+use Rattle.std.specs.List.{AllByRecursion, filter_map, cons_option, slice_get}
 use Rattle.std.proofs.ByRecursion.{all_kept_by}
-use Rattle.std.proofs.lemmas.Bool.{cases_eq, eq-eqb, ne_eqb}
-use Rattle.std.proofs.lemmas.List.{take_more, length-set, length-replicate, get_or-replicate}
+use Rattle.std.proofs.lemmas.List.{get_or-replicate, length-replicate}
 use Rattle.std.proofs.Math.ListN.{replicate}
 use Rattle.std.proofs.lemmas.Option.{none-some, same_Some}
 use Rattle.event.specs.Lists.{first as head}
@@ -11,15 +10,19 @@ use Rattle.slot.specs.Rank.{ranked, Rising}
 use Rattle.slot.specs.declared.Slot.{Slot}
 use Rattle.slot.specs.Slots.{earlier}
 use Rattle.slot.specs.Laws.{strictly}
-use Rattle.slot.proofs.Picks.{sooner, head_ins, kept_ins_yes, kept_ins_no, never_self, all_at, at_zero, ranked_push}
+use Rattle.slot.proofs.Picks.{sooner, head_ins, never_self, all_at, at_zero}
 use Rattle.slot.proofs.Puts.{first_least}
 use Rattle.slot.proofs.Ranks.{ranked_rising}
-use Rattle.bucket_calendar.specs.Heads.{bucket_of, of_bucket, first_in, Led}
+use Rattle.bucket_calendar.specs.Buckets.{bucket_of, of_bucket, row_of}
+use Rattle.bucket_calendar.specs.Chains.{Runs, at, slot_at, Linked}
+use Rattle.bucket_calendar.proofs.Links.{own_bucket}
 
-abbrev pub blank : Slot
-blank = record { held = record { message = record { time = 0; receiver = 0; sender = 0; number = 0; kind = 0; «data» = 0 }; group = record { mask = 0 } }; age = 0 }
+-- each of the 64 buckets has its first
+pub record Led (heads : List (Option Slot)) (xs : List Slot) : Type 0 where
+  pub wide : length heads ≡ 64
+  pub led : (b : ℕ) → b < 64 → get_or heads b None ≡ head (row_of b xs)
 
--- whether s leads before what leads so far
+-- whether s comes before what was first
 abbrev pub leads : Option Slot → Slot → Bool
 leads None s = true
 leads (Some f) s = earlier s f
@@ -32,48 +35,16 @@ leads_no : (o : Option Slot) (s : Slot) → leads o s ≡ false → sooner earli
 leads_no None s e = let z : ◌≡◌ {A = ℕ} 0 1 = cc in absurd (let y : ⊥ = omega arith in y)
 leads_no (Some f) s e = ap (λ b. cond b (Some s) (Some f)) e
 
-own_bucket : (s : Slot) → of_bucket (bucket_of s) s ≡ true
-own_bucket s = eq-eqb (bucket_of s) (bucket_of s) refl
+-- the first of one more
+module _ (o : Option Slot) (xs : List Slot) (s : Slot) (e : o ≡ head (ranked earlier xs)) where
+  first_push : head (ranked earlier (s ∷ xs)) ≡ sooner earlier o s
+  first_push = head_ins earlier strictly s (ranked earlier xs) ∙ ap (λ t. sooner earlier t s) (sym e)
 
--- the first of a bucket, with one more slot
-joins_own : (s : Slot) (xs : List Slot) → first_in (bucket_of s) (s ∷ xs) ≡ sooner earlier (first_in (bucket_of s) xs) s
-joins_own s xs =
-    let p = of_bucket (bucket_of s) in
-    ap head (kept_ins_yes earlier strictly p s (ranked earlier xs) (own_bucket s) (ranked_rising earlier strictly xs)) ∙ head_ins earlier strictly s (filter p (ranked earlier xs))
+  pub first_new : leads o s ≡ true → Some s ≡ head (ranked earlier (s ∷ xs))
+  first_new h = sym (first_push ∙ leads_yes o s h)
 
-joins_other : (s : Slot) (xs : List Slot) (b : ℕ) → (b ≡ bucket_of s → ⊥) → first_in b (s ∷ xs) ≡ first_in b xs
-joins_other s xs b h = ap head (kept_ins_no earlier strictly (of_bucket b) s (ranked earlier xs) (ne_eqb (bucket_of s) b (λ e. h (sym e))))
-
-module _ (heads : List (Option Slot)) (s : Slot) (xs : List Slot) (d : Led heads xs) where
-  own : first_in (bucket_of s) (s ∷ xs) ≡ sooner earlier (get_or heads (bucket_of s) None) s
-  own = joins_own s xs ∙ ap (λ o. sooner earlier o s) (sym (d.led (bucket_of s) (omega arith)))
-
-  pub enters : leads (get_or heads (bucket_of s) None) s ≡ true → Led (set heads (bucket_of s) (Some s)) (s ∷ xs)
-  enters e = record {
-    wide = length-set heads (bucket_of s) (Some s) ∙ d.wide;
-    led = λ b h. ⊎_elim
-        (λ (q : b ≡ bucket_of s). subst (λ k. get_or (set heads (bucket_of s) (Some s)) k None ≡ first_in k (s ∷ xs)) (sym q)
-        (get_or-set_same heads (bucket_of s) (Some s) None (omega (arith, d.wide)) ∙ sym (own ∙ leads_yes (get_or heads (bucket_of s) None) s e)))
-        (λ (q : b ≡ bucket_of s → ⊥). get_or-set_other heads (bucket_of s) b (Some s) None q ∙ d.led b h ∙ sym (joins_other s xs b q)) (cases_eq b (bucket_of s));
-  }
-
-  pub follows : leads (get_or heads (bucket_of s) None) s ≡ false → Led heads (s ∷ xs)
-  follows e = record {
-    wide = d.wide;
-    led = λ b h. ⊎_elim
-        (λ (q : b ≡ bucket_of s). subst (λ k. get_or heads k None ≡ first_in k (s ∷ xs)) (sym q) (sym (own ∙ leads_no (get_or heads (bucket_of s) None) s e)))
-        (λ (q : b ≡ bucket_of s → ⊥). d.led b h ∙ sym (joins_other s xs b q)) (cases_eq b (bucket_of s));
-  }
-
--- heads go by what is held, in whatever order
-pub led_same : (heads : List (Option Slot)) (xs ys : List Slot) → ranked earlier ys ≡ ranked earlier xs → Led heads xs → Led heads ys
-led_same heads xs ys e d = record { wide = d.wide; led = λ b h. d.led b h ∙ ap (λ l. head (filter (of_bucket b) l)) (sym e) }
-
-pub led_more : (heads : List (Option Slot)) (xs : List Slot) (i : ℕ) (d : Slot) → i < length xs → Led heads (get_or xs i d ∷ take i xs) → Led heads (take (i + 1) xs)
-led_more heads xs i d h l = led_same heads (get_or xs i d ∷ take i xs) (take (i + 1) xs) (ap (ranked earlier) (take_more xs i d h) ∙ ranked_push earlier strictly (take i xs) (get_or xs i d)) l
-
-pub led_end : (heads : List (Option Slot)) (xs : List Slot) (s : Slot) → Led heads (s ∷ xs) → Led heads (xs ++ s ∷ [])
-led_end heads xs s l = led_same heads (s ∷ xs) (xs ++ s ∷ []) (ranked_push earlier strictly xs s) l
+  pub first_old : leads o s ≡ false → o ≡ head (ranked earlier (s ∷ xs))
+  first_old h = sym (first_push ∙ leads_no o s h)
 
 -- the slots that lead
 abbrev pub leaders : List (Option Slot) → List Slot
@@ -98,33 +69,71 @@ no_one [] h = refl
 no_one (x ∷ l) h = absurd h.0
 
 -- the earliest of the leaders is the first of all
-pub first_leader : (hs : List (Option Slot)) (xs : List Slot) → Led hs xs → head (ranked earlier (leaders hs)) ≡ head (ranked earlier xs)
+first_leader : (hs : List (Option Slot)) (xs : List Slot) → Led hs xs → head (ranked earlier (leaders hs)) ≡ head (ranked earlier xs)
 first_leader hs xs d = go (ranked earlier xs) refl (ranked_rising earlier strictly xs)
   where
-    at : (r : List Slot) (k : ℕ) → ranked earlier xs ≡ r → k < length hs → get_or hs k None ≡ head (filter (of_bucket k) r)
-    at r k e l = d.led k (omega (arith, d.wide, l)) ∙ ap (λ t. head (filter (of_bucket k) t)) e
+    at_bucket : (r : List Slot) (k : ℕ) → ranked earlier xs ≡ r → k < length hs → get_or hs k None ≡ head (filter (of_bucket k) r)
+    at_bucket r k e l = d.led k (omega (arith, d.wide, l)) ∙ ap (λ t. head (filter (of_bucket k) t)) e
 
     go : (r : List Slot) → ranked earlier xs ≡ r → Rising earlier r → head (ranked earlier (leaders hs)) ≡ head r
-    go [] e w = ap (λ l. head (ranked earlier l)) (no_one (leaders hs) (all_leaders (λ _. ⊥) hs (λ k s l f. none-some s (sym (at [] k e l) ∙ f))))
+    go [] e w = ap (λ l. head (ranked earlier l)) (no_one (leaders hs) (all_leaders (λ _. ⊥) hs (λ k s l f. none-some s (sym (at_bucket [] k e l) ∙ f))))
     go (m ∷ r) e w =
         let k = bucket_of m in
         let l : k < length hs = omega (arith, d.wide) in
-        let p = place_of hs k m l (at (m ∷ r) k e l ∙ ap (λ b. head (cond b (m ∷ filter (of_bucket k) r) (filter (of_bucket k) r))) (own_bucket m)) in
+        let p = place_of hs k m l (at_bucket (m ∷ r) k e l ∙ ap (λ b. head (cond b (m ∷ filter (of_bucket k) r) (filter (of_bucket k) r))) (own_bucket m)) in
         first_least earlier strictly (leaders hs) m p.0 m p.1 p.2
         (all_leaders (λ y. earlier y m ≡ false) hs (λ j s n f.
         all_at (λ y. earlier y m ≡ false) (filter (of_bucket j) (m ∷ r)) 0 s (all_kept_by (of_bucket j) (λ y. earlier y m ≡ false) (m ∷ r) (never_self earlier strictly m, w.0))
-        (at_zero (filter (of_bucket j) (m ∷ r)) ∙ sym (at (m ∷ r) j e n) ∙ f)))
+        (at_zero (filter (of_bucket j) (m ∷ r)) ∙ sym (at_bucket (m ∷ r) j e n) ∙ f)))
 
--- without its first, whose bucket is led anew
-pub led_rest : (hs : List (Option Slot)) (xs ys : List Slot) (x : Slot) (o : Option Slot) → ranked earlier xs ≡ x ∷ ranked earlier ys → Led hs xs → o ≡ first_in (bucket_of x) ys → Led (set hs (bucket_of x) o) ys
-led_rest hs xs ys x o e d f = record {
-  wide = length-set hs (bucket_of x) o ∙ d.wide;
-  led = λ b h. ⊎_elim
-      (λ (q : b ≡ bucket_of x). subst (λ k. get_or (set hs (bucket_of x) o) k None ≡ first_in k ys) (sym q) (get_or-set_same hs (bucket_of x) o None (omega (arith, d.wide)) ∙ f))
-      (λ (q : b ≡ bucket_of x → ⊥). get_or-set_other hs (bucket_of x) b o None q ∙ d.led b h ∙ ap (λ l. head (filter (of_bucket b) l)) e
-      ∙ ap (λ c. head (cond c (x ∷ filter (of_bucket b) (ranked earlier ys)) (filter (of_bucket b) (ranked earlier ys)))) (ne_eqb (bucket_of x) b (λ g. q (sym g)))) (cases_eq b (bucket_of x));
+-- the slots at places
+pub get_at : (xs : List Slot) (p : ℕ) → p < length xs → slice_get xs p ≡ Some (at xs p)
+get_at [] p h = absurd (let z : ⊥ = omega arith in z)
+get_at (x ∷ xs) zero h = refl
+get_at (x ∷ xs) (suc p) h = get_at xs p (let z : p < length xs = omega arith in z)
+
+abbrev pub tops : List Slot → List (Option ℕ) → List (Option Slot)
+tops xs hs = map (slot_at xs) hs
+
+tops_get : (xs : List Slot) (hs : List (Option ℕ)) (b : ℕ) → get_or (tops xs hs) b None ≡ slot_at xs (get_or hs b None)
+tops_get xs [] b = refl
+tops_get xs (o ∷ hs) zero = refl
+tops_get xs (o ∷ hs) (suc b) = tops_get xs hs b
+
+tops_length : (xs : List Slot) (hs : List (Option ℕ)) → length (tops xs hs) ≡ length hs
+tops_length xs [] = refl
+tops_length xs (o ∷ hs) = ap suc (tops_length xs hs)
+
+pub slots_get : (xs : List Slot) (ps : List ℕ) (i : ℕ) → AllByRecursion (λ p. p < length xs) ps → slot_at xs (slice_get ps i) ≡ slice_get (map (at xs) ps) i
+slots_get xs [] i a = refl
+slots_get xs (p ∷ ps) zero a = get_at xs p a.0
+slots_get xs (p ∷ ps) (suc i) a = slots_get xs ps i a.1
+
+-- a chain's first place has the first slot
+pub top_of : (xs : List Slot) (nx : List (Option ℕ)) (o : Option ℕ) (ps : List ℕ) → Runs nx o ps → AllByRecursion (λ p. p < length xs) ps → slot_at xs o ≡ head (map (at xs) ps)
+top_of xs nx o [] h a = ap (slot_at xs) h
+top_of xs nx o (p ∷ ps) h a = ap (slot_at xs) h.0 ∙ get_at xs p a.0
+
+tops_led : (hs nx : List (Option ℕ)) (xs : List Slot) → Linked hs nx xs → Led (tops xs hs) xs
+tops_led hs nx xs d = record {
+  wide = tops_length xs hs ∙ d.wide;
+  led = λ b h. tops_get xs hs b ∙ top_of xs nx (get_or hs b None) (d.row b) (d.runs b h) (d.within b h) ∙ ap head (d.listed b h);
 }
 
--- no bucket of nothing has a first
-pub none_led : (xs : List Slot) → xs ≡ [] → Led (replicate 64 None) xs
-none_led xs e = subst (Led (replicate 64 None)) (sym e) (record { wide = length-replicate {A = Option Slot} 64 None; led = λ b h. get_or-replicate 64 b None None h })
+leaders_tops : (xs : List Slot) (hs : List (Option ℕ)) → filter_map (slot_at xs) hs ≡ leaders (tops xs hs)
+leaders_tops xs [] = refl
+leaders_tops xs (o ∷ hs) = ap (cons_option (slot_at xs o)) (leaders_tops xs hs)
+
+pub earliest_top : (hs nx : List (Option ℕ)) (xs : List Slot) → Linked hs nx xs → head (ranked earlier (filter_map (slot_at xs) hs)) ≡ head (ranked earlier xs)
+earliest_top hs nx xs d = ap (λ l. head (ranked earlier l)) (leaders_tops xs hs) ∙ first_leader (tops xs hs) xs (tops_led hs nx xs d)
+
+-- no bucket of nothing has a slot
+pub none_linked : Linked (replicate 64 None) (replicate 512 None) []
+none_linked = record {
+  wide = length-replicate {A = Option ℕ} 64 None;
+  long = length-replicate {A = Option ℕ} 512 None;
+  row = λ _. [];
+  runs = λ b h. get_or-replicate 64 b None None h;
+  within = λ b h. tt;
+  listed = λ b h. refl;
+}

@@ -1,5 +1,7 @@
 -- Messages changed in place, keeping their keys, and messages dropped.
-use Rattle.std.proofs.Common.{◌≡◌, ℕ, ◌<◌, Bool, true, false, List, [], ◌∷◌, map, filter, sym, refl, ap, ◌∙◌, subst, ⊎_elim}
+use Rattle.std.proofs.Common.{◌≡◌, ℕ, zero, suc, ◌<◌, ◌/◌, ◌%◌, Bool, true, false, cond, eqb, List, [], ◌∷◌, length, map, filter, sym, refl, ap, ◌∙◌, subst, ⊎_elim, arith}
+use Rattle.std.proofs.lemmas.List.{length-map}
+use Rattle.std.specs.List.{AllByRecursion}
 use Rattle.std.proofs.ByRecursion.{All-weaker, All-map, all_kept_by, every_from_all, all_from_every}
 use Rattle.std.proofs.lemmas.Bool.{cases_Bool, cond_both}
 use Rattle.calendar.specs.declared.Held.{Held}
@@ -8,7 +10,9 @@ use Rattle.slot.specs.Rank.{ins, ranked}
 use Rattle.slot.proofs.Ranks.{ins_comm}
 use Rattle.slot.specs.declared.Slot.{Slot}
 use Rattle.std.specs.Prelude.{nat_lt, Option}
-use Rattle.bucket_calendar.specs.Heads.{Led, Sound}
+use Rattle.event.specs.Lists.{first}
+use Rattle.bucket_calendar.specs.Buckets.{of_bucket}
+use Rattle.bucket_calendar.specs.Chains.{at, Linked, Sound}
 use Rattle.slot.specs.Slots.{by_key, key_of_slot, earlier, ahead, steady, bares, in_order, Young}
 use Rattle.slot.specs.Laws.{strictly}
 use Rattle.slot.proofs.Picks.{Climbs, climbs_kept, ins_first, kept_ranked}
@@ -82,17 +86,51 @@ steady_kept xs s = ap steady (sym (kept_ranked earlier strictly lasts xs)) ∙ s
 pub young_kept : (n : ℕ) (xs : List Slot) → Young n xs → Young n (filter lasts xs)
 young_kept n xs y = every_from_all (λ x. x.age < n) (filter lasts xs) (all_kept_by lasts (λ x. x.age < n) xs (all_from_every (λ x. x.age < n) xs y))
 
--- a pool that is changed, and one from which the others are dropped too, stays sound
-pub sound_changed : (g : Held → Held) → ((x : Held) → key_of_held (g x) ≡ key_of_held x) → (n : ℕ) (hs gs : List (Option Slot)) (xs ys : List Slot) → ys ≡ map (changed g) xs → Sound n hs xs → Led gs ys → Sound n gs ys
-sound_changed g e n hs gs xs ys f s d = record {
-  young = subst (Young n) (sym f) (young_changed g n xs s.young);
-  apart = ap (λ l. steady (ranked earlier l)) f ∙ steady_changed g e xs s.apart;
-  heads_led = d;
-}
+-- a pool that is changed stays linked
+kept_changed : (g : Held → Held) → ((x : Held) → key_of_held (g x) ≡ key_of_held x) → (b : ℕ) (l : List Slot) → map (changed g) (filter (of_bucket b) l) ≡ filter (of_bucket b) (map (changed g) l)
+kept_changed g e b [] = refl
+kept_changed g e b (x ∷ l) =
+    ap (λ t. map (changed g) (cond t (x ∷ filter (of_bucket b) l) (filter (of_bucket b) l))) (ap (λ k. eqb (k.time / 64 % 64) b) (sym (e x.held)))
+    ∙ cond_both (of_bucket b (changed g x)) (x ∷ filter (of_bucket b) l) (filter (of_bucket b) l) (λ t. map (changed g) t ≡ filter (of_bucket b) (map (changed g) (x ∷ l)))
+    (λ h. ap (λ t. changed g x ∷ t) (kept_changed g e b l) ∙ sym (ap (λ t. cond t (changed g x ∷ filter (of_bucket b) (map (changed g) l)) (filter (of_bucket b) (map (changed g) l))) h))
+    (λ h. kept_changed g e b l ∙ sym (ap (λ t. cond t (changed g x ∷ filter (of_bucket b) (map (changed g) l)) (filter (of_bucket b) (map (changed g) l))) h))
 
-pub sound_kept : (g : Held → Held) → ((x : Held) → key_of_held (g x) ≡ key_of_held x) → (n : ℕ) (hs gs : List (Option Slot)) (xs ys : List Slot) → ys ≡ filter lasts (map (changed g) xs) → Sound n hs xs → Led gs ys → Sound n gs ys
-sound_kept g e n hs gs xs ys f s d = record {
+pub linked_changed : (g : Held → Held) → ((x : Held) → key_of_held (g x) ≡ key_of_held x) → (hs nx : List (Option ℕ)) (xs ys : List Slot) → ys ≡ map (changed g) xs → steady (ranked earlier xs) ≡ true → Linked hs nx xs → Linked hs nx ys
+linked_changed g e hs nx xs ys f s d = subst (Linked hs nx) (sym f) (record {
+  wide = d.wide;
+  long = d.long;
+  row = d.row;
+  runs = d.runs;
+  within = λ b h. All-weaker (λ p. p < length xs) (λ p. p < length (map (changed g) xs)) (λ p k. omega (arith, k, length-map xs (changed g))) (d.row b) (d.within b h);
+  listed = λ b h. places (d.row b) (d.within b h) ∙ ap (map (changed g)) (d.listed b h) ∙ kept_changed g e b (ranked earlier xs) ∙ ap (filter (of_bucket b)) (sym (ranked_changed g e xs s));
+})
+  where
+    get_changed : (l : List Slot) (p : ℕ) → p < length l → at (map (changed g) l) p ≡ changed g (at l p)
+    get_changed [] p h = absurd (let z : ⊥ = omega arith in z)
+    get_changed (x ∷ l) zero h = refl
+    get_changed (x ∷ l) (suc p) h = get_changed l p (let z : p < length l = omega arith in z)
+
+    places : (ps : List ℕ) → AllByRecursion (λ p. p < length xs) ps → map (at (map (changed g) xs)) ps ≡ map (changed g) (map (at xs) ps)
+    places [] a = refl
+    places (p ∷ ps) a = ap (λ t. t ∷ map (at (map (changed g) xs)) ps) (get_changed xs p a.0) ∙ ap (λ t. changed g (at xs p) ∷ t) (places ps a.1)
+
+-- a pool that is changed, and one from which the others are dropped too, stays sound
+pub sound_changed : (g : Held → Held) → ((x : Held) → key_of_held (g x) ≡ key_of_held x) → (n : ℕ) (o q : Option Slot) (hs nx : List (Option ℕ)) (xs ys : List Slot) → ys ≡ map (changed g) xs → Sound n o hs nx xs
+    → (Linked hs nx ys → q ≡ first (ranked earlier ys)) → Sound n q hs nx ys
+sound_changed g e n o q hs nx xs ys f s k =
+    let d = linked_changed g e hs nx xs ys f s.apart s.linked in
+    record {
+      young = subst (Young n) (sym f) (young_changed g n xs s.young);
+      apart = ap (λ l. steady (ranked earlier l)) f ∙ steady_changed g e xs s.apart;
+      known = k d;
+      linked = d;
+    }
+
+pub sound_kept : (g : Held → Held) → ((x : Held) → key_of_held (g x) ≡ key_of_held x) → (n : ℕ) (o q : Option Slot) (hs nx hs' nx' : List (Option ℕ)) (xs ys : List Slot) → ys ≡ filter lasts (map (changed g) xs) → Sound n o hs nx xs
+    → Linked hs' nx' ys → (Linked hs' nx' ys → q ≡ first (ranked earlier ys)) → Sound n q hs' nx' ys
+sound_kept g e n o q hs nx hs' nx' xs ys f s d k = record {
   young = subst (Young n) (sym f) (young_kept n (map (changed g) xs) (young_changed g n xs s.young));
   apart = ap (λ l. steady (ranked earlier l)) f ∙ steady_kept (map (changed g) xs) (steady_changed g e xs s.apart);
-  heads_led = d;
+  known = k d;
+  linked = d;
 }

@@ -1,4 +1,6 @@
-pub mod Heads
+pub mod Buckets
+pub mod Chains
+pub mod Cuts
 pub mod Line
 pub mod Changes
 pub mod Laws

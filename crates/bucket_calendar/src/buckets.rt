@@ -1,26 +1,27 @@
-// Held messages in a pool of slots in no order, with the first slot of each bucket beside it.
-ghost use Rattle.std.specs.Prelude.{◌≡◌, ◌+◌, ◌<◌, ◌≤◌, [], ◌∷◌, length, map, Some, vec_len, vec_capacity, IfOk};
+// Held messages in a pool of slots in no order, linked by buckets, with the first beside it.
+ghost use Rattle.std.specs.Prelude.{◌≡◌, ◌+◌, ◌<◌, ◌≤◌, [], ◌∷◌, List, length, map, Some, vec_len, vec_capacity, IfOk};
 ghost use Rattle.std.specs.Coded.{codes};
 ghost use Rattle.std.specs.List.{slice_get};
 ghost use Rattle.event.specs.Lists.{insert, first, rest};
 ghost use Rattle.calendar.specs.declared.Held.{Held};
 ghost use Rattle.calendar.specs.Calls.{key_of_held, leading, waiting, spread, erase};
+ghost use Rattle.slot.specs.declared.Slot.{Slot};
 ghost use Rattle.slot.specs.Rank.{ranked};
 ghost use Rattle.slot.specs.Slots.{earlier, in_order};
 ghost use Rattle.slot.proofs.Holds.{in_order_sorted};
-ghost use Rattle.bucket_calendar.specs.Heads.{Sound};
+ghost use Rattle.bucket_calendar.specs.Chains.{Sound};
 ghost use Rattle.bucket_calendar.specs.Changes.{changed};
 ghost use Rattle.slot.specs.Passes.{Gives};
 ghost use Rattle.bucket_calendar.specs.Line.{Line, fits_in_order};
 ghost use Rattle.slot.specs.Props.{sorted_prop};
 
-use crate::heads::{BUCKETS, bucket, earliest, enter, heads_of};
+use crate::chains::{Chains, bucket};
 use crate::store::CAPACITY;
 use calendar::Held;
 use group::VARIANTS;
 use slot::Slot;
 use slot::order::comes_before;
-use slot::pick::{first_after, nth};
+use slot::pick::nth;
 use std::alloc::{AllocError, Global};
 use std::marker::Model;
 
@@ -28,7 +29,8 @@ use std::marker::Model;
 #[derive(Drop)]
 pub(crate) struct Buckets {
     pool: Vec<Slot>,
-    heads: [Option<Slot>; BUCKETS],
+    chains: Chains,
+    first: Option<Slot>,
     puts: u32,
     ghost short: { vec_len pool ≤ 512 },
 }
@@ -41,7 +43,7 @@ impl Model for Buckets {
 
     ghost view = { λ b. record { held = in_order b.pool.items; puts = b.puts; fits = fits_in_order b.pool b.short; sorted = in_order_sorted b.pool.items } };
 
-    ghost invariant = { λ b. (vec_capacity b.pool ≡ 512) × Sound b.puts b.heads b.pool.items };
+    ghost invariant = { λ b. (vec_capacity b.pool ≡ 512) × Sound b.puts b.first b.chains.heads b.chains.next b.pool.items };
 }
 
 impl Buckets {
@@ -51,7 +53,8 @@ impl Buckets {
     {
         Ok(Buckets {
             pool: Vec::with_capacity(memory, CAPACITY)?,
-            heads: heads_of(&[]),
+            chains: Chains::new(),
+            first: None,
             puts: 0,
         })
     }
@@ -80,21 +83,25 @@ impl Buckets {
             held: h,
             age: self.puts,
         };
+        let place = self.pool.len() as u16;
         self.pool.push_reserved(slot);
-        enter(&mut self.heads, slot);
+        self.chains.link(&self.pool, place);
+        self.first = sooner(self.first, slot);
         self.puts += 1;
     }
 
-    // Tells and removes the first. Its bucket's first is looked for among the others.
+    // Tells and removes the first.
     pub(crate) fn pop(&mut self) -> Option<Held>
         ensures told { result ≡ first self.old.held }
         ensures held { self.new.held ≡ rest self.old.held }
         ensures puts { self.new.puts ≡ self.old.puts }
     {
-        let first = earliest(&self.heads)?;
-        remove_first(&mut self.pool, &first);
+        let first = self.first?;
         let b = bucket(&first);
-        self.heads[b] = first_after(&self.pool, |s| bucket(s) == b, None);
+        let place = self.chains.heads[b]?;
+        self.chains.unlink(&self.pool, b, place);
+        self.pool.swap_remove(place as usize);
+        self.first = self.chains.earliest(&self.pool);
         Some(first.held)
     }
 
@@ -103,20 +110,25 @@ impl Buckets {
         ensures puts { self.new.puts ≡ 0 }
     {
         self.pool.clear();
-        self.heads = heads_of(&[]);
+        self.chains = Chains::new();
+        self.first = None;
         self.puts = 0;
     }
 
-    // Number i, from 0, of those with the smallest key.
+    // Number i, from 0, of those with the smallest key, which are the front of the first one's bucket.
     pub(crate) fn look(&self, i: usize) -> Option<Held>
         ensures { result ≡ slice_get (leading self.now.held) i }
     {
-        let first = earliest(&self.heads)?;
+        let first = self.first?;
         if i == 0 {
             return Some(first.held);
         }
-        let key = first.held.key();
-        nth(&self.pool, |s| key == s.held.key(), i).map(|s| s.held)
+        let other = self.chains.nth(&self.pool, bucket(&first), i)?;
+        if first.held.key() == other.held.key() {
+            Some(other.held)
+        } else {
+            None
+        }
     }
 
     // Number i, from 0, of those that wait for v.
@@ -132,7 +144,7 @@ impl Buckets {
         ensures puts { self.new.puts ≡ self.old.puts }
     {
         change(&mut self.pool, |h| h.joins(v, c));
-        self.heads = heads_of(&self.pool);
+        self.first = self.chains.earliest(&self.pool);
     }
 
     // Removes v from every group, and drops every message that no variant waits for.
@@ -145,19 +157,23 @@ impl Buckets {
         }
         change(&mut self.pool, |h| h.leaves(v));
         self.pool.retain(|s| s.held.is_wanted());
-        self.heads = heads_of(&self.pool);
+        self.chains = Chains::of(&self.pool);
+        self.first = self.chains.earliest(&self.pool);
     }
 }
 
-// Removes the first: the only one that it does not come before, itself.
-fn remove_first(pool: &mut Vec<Slot>, head: &Slot)
-    requires { first (ranked earlier pool.old.items) ≡ Some head.now }
-    ensures left { ranked earlier pool.old.items ≡ head.now ∷ ranked earlier pool.new.items }
-    ensures len { vec_len pool.new ≤ vec_len pool.old }
-    ensures capacity { vec_capacity pool.new ≡ vec_capacity pool.old }
+// The earlier of s and what was first.
+fn sooner(known: Option<Slot>, s: Slot) -> Option<Slot>
+    ensures { (xs : List Slot) → known ≡ first (ranked earlier xs) → result ≡ first (ranked earlier (s ∷ xs)) }
 {
-    let place = pool.iter().position(|s| !comes_before(head, s)).unwrap();
-    pool.swap_remove(place);
+    let Some(first) = known else {
+        return Some(s);
+    };
+    if comes_before(&s, &first) {
+        Some(s)
+    } else {
+        known
+    }
 }
 
 // Makes of each what f gives, with its age.

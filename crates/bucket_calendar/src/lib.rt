@@ -3,5 +3,5 @@
 
 mod buckets;
 pub mod calendar_impl;
-mod heads;
+mod chains;
 pub mod store;

@@ -5,7 +5,7 @@ use Rattle.std.proofs.lemmas.List.Edits.{map_over_more}
 use Rattle.calendar.specs.declared.Held.{Held}
 use Rattle.slot.specs.declared.Slot.{Slot}
 use Rattle.bucket_calendar.specs.Changes.{changed}
-use Rattle.bucket_calendar.proofs.Firsts.{blank}
+use Rattle.bucket_calendar.specs.Chains.{blank}
 use Rattle.bucket_calendar.proofs.buckets.change.Goals as goal
 
 -- with its age

@@ -5,4 +5,4 @@ use Rattle.bucket_calendar.proofs.buckets.Buckets.new.Goals as goal
 pub invariant_of-result-2 : goal.invariant_of-result-2
 invariant_of-result-2 c =
     let e = c.in_ok-with_capacity.ensures in
-    (e.exact, sound_none 0 c.heads_of.result _ e.items c.heads_of.ensures)
+    (e.exact, sound_none 0 _ _ _ e.items c.new.ensures)

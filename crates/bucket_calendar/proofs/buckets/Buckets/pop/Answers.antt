@@ -1,36 +1,56 @@
--- The earliest leader goes, and its bucket is led anew.
-use Rattle.std.proofs.Common.{◌≡◌, filter, sym, ap, ◌∙◌, arith, rules}
+-- The first goes, and its bucket is led by the next.
+use Rattle.std.proofs.Common.{◌≡◌, Some, sym, ap, ◌∙◌, subst, arith}
 use Rattle.event.specs.Lists.{rest, first as head}
 use Rattle.slot.specs.Rank.{ranked}
 use Rattle.slot.specs.Slots.{earlier, bares}
-use Rattle.slot.proofs.Picks.{at_zero}
-use Rattle.slot.proofs.Nths.{nth_start}
-use Rattle.bucket_calendar.specs.Heads.{of_bucket, first_in}
-use Rattle.bucket_calendar.proofs.Firsts.{led_rest}
-use Rattle.bucket_calendar.proofs.Moves.{sound_rest}
+use Rattle.bucket_calendar.specs.Chains.{at, Linked}
+use Rattle.bucket_calendar.proofs.Moves.{sound_rest, first_at, first_somewhere, taken}
 use Rattle.bucket_calendar.proofs.buckets.Buckets.pop.Goals as goal
 
-pub remove_first-requires : goal.remove_first-requires
-remove_first-requires c = sym (c.in_ok-first.ensures c.self.inside.pool.items c.self.invariant.1.heads_led)
+pub returns-in_err-place-clause-told : goal.returns-in_err-place-clause-told
+returns-in_err-place-clause-told c =
+    let s = c.self.inside in
+    absurd (first_somewhere s.chains.heads s.chains.next s.pool.items c.in_ok-first.first c.bucket-b.result (sym c.in_ok-first.was ∙ c.self.invariant.1.known) c.bucket-b.ensures.value c.in_err-place.was c.self.invariant.1.linked)
+
+pub returns-in_err-place-clause-held : goal.returns-in_err-place-clause-held
+returns-in_err-place-clause-held c =
+    let s = c.self.inside in
+    absurd (first_somewhere s.chains.heads s.chains.next s.pool.items c.in_ok-first.first c.bucket-b.result (sym c.in_ok-first.was ∙ c.self.invariant.1.known) c.bucket-b.ensures.value c.in_err-place.was c.self.invariant.1.linked)
+
+pub swap_remove-requires : goal.swap_remove-requires
+swap_remove-requires c =
+    let s = c.self.inside in
+    let p = first_at s.chains.heads s.chains.next s.pool.items c.in_ok-first.first c.bucket-b.result c.in_ok-place.place (sym c.in_ok-first.was ∙ c.self.invariant.1.known) c.bucket-b.ensures.value c.in_ok-place.was c.self.invariant.1.linked in
+    omega (arith, p.0, s.pool.ok.0)
 
 pub invariant_of-self : goal.invariant_of-self
 invariant_of-self c =
     let s = c.self.inside in
     let xs = s.pool.items in
-    let ys = c.remove_first.new.pool.items in
+    let ys = c.swap_remove.new.self.items in
     let x = c.in_ok-first.first in
-    let e = c.remove_first.ensures in
-    let b = c.bucket-b.result in
-    let led : c.first_after.result ≡ first_in b ys =
-    c.first_after.ensures (of_bucket b) (search rules) ∙ nth_start (of_bucket b) c.deref.result.now ∙ at_zero (filter (of_bucket b) (ranked earlier c.deref.result.now))
-    ∙ ap (first_in b) c.deref.ensures.value in (
+    let i = c.in_ok-place.place in
+    let e = c.swap_remove.ensures in
+    let hs = c.unlink.new.self.heads in
+    let nx = c.unlink.new.self.next in
+    let q = c.earliest-self-inside.result in
+    let f = sym c.in_ok-first.was ∙ c.self.invariant.1.known in
+    let p = first_at s.chains.heads s.chains.next xs x c.bucket-b.result i f c.bucket-b.ensures.value c.in_ok-place.was c.self.invariant.1.linked in
+    let t = taken xs ys i c.swap_remove.result (sym f ∙ ap Some (sym p.1)) p.0 e.value e.items in
+    let d : Linked hs nx ys = c.unlink.ensures c.swap_remove.result ys (rw c.deref.ensures.value e.items) (rw c.deref.ensures.value t) in (
       omega (arith, e.capacity, c.self.invariant.0),
-      rw c.bucket-b.ensures.value (sound_rest s.puts s.heads _ xs ys x e.left c.self.invariant.1
-          (led_rest s.heads xs ys x c.first_after.result e.left c.self.invariant.1.heads_led (led ∙ ap (λ n. first_in n ys) c.bucket-b.ensures.value))),
+      sound_rest s.puts s.first q s.chains.heads s.chains.next hs nx xs ys (at xs i) t c.self.invariant.1 d
+          (subst (λ l. Linked hs nx l → q ≡ head (ranked earlier l)) c.deref-2.ensures.value c.earliest-self-inside.ensures),
     )
 
-pub returns-clause-told : goal.returns-clause-told
-returns-clause-told c = rw (← c.self.view_is) (sym (ap (λ l. head (bares l)) c.remove_first.ensures.left))
-
 pub returns-clause-held : goal.returns-clause-held
-returns-clause-held c = rw (← c.self.view_is) (sym (ap (λ l. rest (bares l)) c.remove_first.ensures.left))
+returns-clause-held c =
+    let s = c.self.inside in
+    let xs = s.pool.items in
+    let ys = c.swap_remove.new.self.items in
+    let i = c.in_ok-place.place in
+    let e = c.swap_remove.ensures in
+    let f = sym c.in_ok-first.was ∙ c.self.invariant.1.known in
+    let p = first_at s.chains.heads s.chains.next xs c.in_ok-first.first c.bucket-b.result i f c.bucket-b.ensures.value c.in_ok-place.was c.self.invariant.1.linked in
+    let t = taken xs ys i c.swap_remove.result (sym f ∙ ap Some (sym p.1)) p.0 e.value e.items in
+    rw (← c.self.view_is) (sym (ap (λ l. rest (bares l)) t))

@@ -1,0 +1,61 @@
+-- The first leaves, and the last slot is led to at its place.
+use Rattle.std.proofs.Common.{get_or, None, refl, arith, rules, ◌≡◌, Some, length, set, ◌-◌}
+use Rattle.bucket_calendar.proofs.Unlinks.{place_in, loosened, moved_chain, moved_short, moved_runs, leader_in, unmoved, led_to, led_first}
+use Rattle.bucket_calendar.proofs.chains.Chains.unlink.Goals as goal
+
+pub bounds-self-place : goal.bounds-self-place
+bounds-self-place c =
+    let a = c.args in
+    let r = c.requires in
+    let p = place_in a.self.now.heads a.self.now.next a.pool.now a.b a.place r.within r.head r.linked in
+    omega (arith, p, r.few)
+
+pub bounds-self-place-2 : goal.bounds-self-place-2
+bounds-self-place-2 c =
+    let a = c.args in
+    let r = c.requires in
+    let p = place_in a.self.now.heads a.self.now.next a.pool.now a.b a.place r.within r.head r.linked in
+    omega (arith, p, r.few)
+
+pub leads_to-requires-clause-chain : goal.leads_to-requires-clause-chain
+leads_to-requires-clause-chain c =
+    let a = c.args in
+    let r = c.requires in
+    let p = place_in a.self.now.heads a.self.now.next a.pool.now a.b a.place r.within r.head r.linked in
+    let o = loosened a.self.now.heads a.self.now.next a.pool.now a.b a.place r.within r.head r.linked in
+    rw c.bucket-c.ensures.value (moved_chain _ _ a.pool.now a.place p r.few o)
+
+pub bounds-self-k : goal.bounds-self-k
+bounds-self-k c =
+    let a = c.args in
+    let r = c.requires in
+    let p = place_in a.self.now.heads a.self.now.next a.pool.now a.b a.place r.within r.head r.linked in
+    let o = loosened a.self.now.heads a.self.now.next a.pool.now a.b a.place r.within r.head r.linked in
+    leader_in _ _ a.pool.now a.place p r.few o c.in-Some.k (c.in-Some.ensures.some c.in-Some.k refl _ (rw c.bucket-c.ensures.value (moved_runs _ _ a.pool.now a.place p r.few o)))
+
+pub returns-then-eq : goal.returns-then-eq
+returns-then-eq c d ys e f =
+    let a = c.args in
+    let r = c.requires in
+    let p = place_in a.self.now.heads a.self.now.next a.pool.now a.b a.place r.within r.head r.linked in
+    let o = loosened a.self.now.heads a.self.now.next a.pool.now a.b a.place r.within r.head r.linked in
+    let g : get_or (set a.self.now.heads a.b (get_or a.self.now.next a.place None)) c.bucket-c.result None ≡ Some (length a.pool.now - 1) = search rules in
+    rw c.bucket-c.ensures.value (led_first _ _ a.pool.now a.place p r.few o d ys e f (rw c.bucket-c.ensures.value at g))
+
+pub returns-in-Some : goal.returns-in-Some
+returns-in-Some c d ys e f =
+    let a = c.args in
+    let r = c.requires in
+    let p = place_in a.self.now.heads a.self.now.next a.pool.now a.b a.place r.within r.head r.linked in
+    let o = loosened a.self.now.heads a.self.now.next a.pool.now a.b a.place r.within r.head r.linked in
+    let t = c.in-Some.ensures.some c.in-Some.k refl _ (rw c.bucket-c.ensures.value (moved_runs _ _ a.pool.now a.place p r.few o)) in
+    led_to _ _ a.pool.now a.place p r.few o d ys e f t.front t.back t.parts c.in-Some.k t.ends
+
+pub returns-in_default : goal.returns-in_default
+returns-in_default c d ys e f =
+    let a = c.args in
+    let r = c.requires in
+    let p = place_in a.self.now.heads a.self.now.next a.pool.now a.b a.place r.within r.head r.linked in
+    let o = loosened a.self.now.heads a.self.now.next a.pool.now a.b a.place r.within r.head r.linked in
+    let t = c.in_default.ensures.none refl _ (rw c.bucket-c.ensures.value (moved_runs _ _ a.pool.now a.place p r.few o)) (moved_short _ _ a.pool.now a.place p r.few o) in
+    unmoved _ _ a.pool.now a.place p r.few o d ys e f t

@@ -1,0 +1,180 @@
+// The slots of each bucket, linked through the pool in order.
+ghost use Rattle.std.specs.Prelude.{[], ◌≡◌, ◌+◌, ℕ, List, ◌∷◌, ◌≤◌, ◌<◌, length, Some, ◌≢◌, take, slice_index_or, None};
+ghost use Rattle.std.specs.List.{AllByRecursion, slice_get, swap_remove};
+ghost use Rattle.event.specs.Lists.{first};
+ghost use Rattle.slot.specs.declared.Slot.{Slot};
+ghost use Rattle.slot.specs.Rank.{ranked};
+ghost use Rattle.slot.specs.Slots.{earlier};
+ghost use Rattle.bucket_calendar.specs.Buckets.{bucket_of, row_of};
+ghost use Rattle.bucket_calendar.specs.Chains.{Runs, at, slot_at, Chain, Linked};
+ghost use Rattle.bucket_calendar.specs.Cuts.{Cut, LeadsTo};
+
+use crate::store::CAPACITY;
+use slot::Slot;
+use slot::order::comes_before;
+
+// How many buckets there are.
+pub(crate) const BUCKETS: usize = 64;
+
+// Each span of 64 in time has its bucket, and the spans go round all buckets.
+pub(crate) fn bucket(s: &Slot) -> usize
+    ensures value { result ≡ bucket_of s.now }
+    ensures within { result < 64 }
+{
+    (s.held.message.time / 64) as usize % BUCKETS
+}
+
+// The last place in the chain from `start` whose slot comes before s.
+fn last_before(
+    pool: &[Slot],
+    next: &[Option<u16>; CAPACITY],
+    start: Option<u16>,
+    s: &Slot,
+) -> Option<u16>
+    requires chain { Chain (length pool.now) next.now start }
+    requires few { length pool.now ≤ 512 }
+    ensures { (ps : List ℕ) → Runs next.now start ps → length ps ≤ length pool.now → Cut pool.now s.now ps result }
+{
+    let mut last = None;
+    let mut here = start;
+    for _ in 0..pool.len() {
+        let Some(k) = here else {
+            return last;
+        };
+        if !comes_before(&pool[k as usize], s) {
+            return last;
+        }
+        last = here;
+        here = next[k as usize];
+    }
+    last
+}
+
+// The place that leads to `place` in the chain from `start`, if one does.
+fn leads_to(next: &[Option<u16>; CAPACITY], start: Option<u16>, place: u16) -> Option<u16>
+    requires chain { Chain 512 next.now start }
+    requires other { start ≢ Some place }
+    ensures some { (k : ℕ) → result ≡ Some k → (ps : List ℕ) → Runs next.now start ps → LeadsTo k place ps }
+    ensures none { result ≡ None → (ps : List ℕ) → Runs next.now start ps → length ps ≤ 512 → AllByRecursion (λ p. p ≢ place) ps }
+{
+    let mut here = start;
+    for _ in 0..CAPACITY {
+        let Some(k) = here else {
+            return None;
+        };
+        if next[k as usize] == Some(place) {
+            return here;
+        }
+        here = next[k as usize];
+    }
+    None
+}
+
+// Number i, from 0, of the places in the chain from `start`.
+fn nth_place(next: &[Option<u16>; CAPACITY], start: Option<u16>, i: usize) -> Option<u16>
+    requires { Chain 512 next.now start }
+    ensures { (ps : List ℕ) → Runs next.now start ps → result ≡ slice_get ps i }
+{
+    let mut here = start;
+    for _ in 0..i {
+        let Some(k) = here else {
+            return None;
+        };
+        here = next[k as usize];
+    }
+    here
+}
+
+// The slot at the place, if it is one.
+fn slot_at(pool: &[Slot], place: Option<u16>) -> Option<Slot>
+    ensures { result ≡ slot_at pool.now place }
+{
+    pool.get(place? as usize).copied()
+}
+
+// Where the first slot of each bucket lies, and after each slot the next one of its bucket.
+#[derive(Clone, Copy)]
+pub(crate) struct Chains {
+    pub(crate) heads: [Option<u16>; BUCKETS],
+    pub(crate) next: [Option<u16>; CAPACITY],
+}
+
+impl Chains {
+    pub(crate) fn new() -> Chains
+        ensures { Linked result.heads result.next [] }
+    {
+        Chains {
+            heads: [None; BUCKETS],
+            next: [None; CAPACITY],
+        }
+    }
+
+    // All slots of the pool, linked.
+    pub(crate) fn of(pool: &[Slot]) -> Chains
+        requires { length pool.now ≤ 512 }
+        ensures { Linked result.heads result.next pool.now }
+    {
+        let mut chains = Chains::new();
+        for place in 0..pool.len() {
+            chains.link(pool, place as u16);
+        }
+        chains
+    }
+
+    // The first of all slots is the first of the buckets' first ones.
+    pub(crate) fn earliest(&self, pool: &[Slot]) -> Option<Slot>
+        ensures { Linked self.now.heads self.now.next pool.now → result ≡ first (ranked earlier pool.now) }
+    {
+        self.heads.iter().filter_map(|h| slot_at(pool, *h)).max()
+    }
+
+    // Number i, from 0, of the bucket b.
+    pub(crate) fn nth(&self, pool: &[Slot], b: usize, i: usize) -> Option<Slot>
+        requires linked { Linked self.now.heads self.now.next pool.now }
+        requires within { b < 64 }
+        requires few { length pool.now ≤ 512 }
+        ensures { result ≡ slice_get (row_of b pool.now) i }
+    {
+        slot_at(pool, nth_place(&self.next, self.heads[b], i))
+    }
+
+    // The slot at `place` joins the chain of its bucket. The slots before it are linked.
+    pub(crate) fn link(&mut self, pool: &[Slot], place: u16)
+        requires linked { Linked self.old.heads self.old.next (take place pool.now) }
+        requires within { place < length pool.now }
+        requires few { length pool.now ≤ 512 }
+        ensures { Linked self.new.heads self.new.next (take (place + 1) pool.now) }
+    {
+        let s = &pool[place as usize];
+        let b = bucket(s);
+        match last_before(pool, &self.next, self.heads[b], s) {
+            None => {
+                self.next[place as usize] = self.heads[b];
+                self.heads[b] = Some(place);
+            }
+            Some(k) => {
+                self.next[place as usize] = self.next[k as usize];
+                self.next[k as usize] = Some(place);
+            }
+        }
+    }
+
+    // The first of the bucket b, at `place`, leaves its chain. What leads to the last slot of the pool is led to `place`, where that slot goes.
+    pub(crate) fn unlink(&mut self, pool: &[Slot], b: usize, place: u16)
+        requires linked { Linked self.old.heads self.old.next pool.now }
+        requires within { b < 64 }
+        requires head { slice_index_or self.old.heads b None ≡ Some place }
+        requires few { length pool.now ≤ 512 }
+        ensures { (d : Slot) (ys : List Slot) → ys ≡ swap_remove pool.now place d → ranked earlier pool.now ≡ at pool.now place ∷ ranked earlier ys → Linked self.new.heads self.new.next ys }
+    {
+        self.heads[b] = self.next[place as usize];
+        let last = (pool.len() - 1) as u16;
+        self.next[place as usize] = self.next[last as usize];
+        let c = bucket(&pool[last as usize]);
+        if self.heads[c] == Some(last) {
+            self.heads[c] = Some(place);
+        } else if let Some(k) = leads_to(&self.next, self.heads[c], last) {
+            self.next[k as usize] = Some(place);
+        }
+    }
+}
