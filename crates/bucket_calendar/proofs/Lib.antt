@@ -4,4 +4,5 @@ pub mod Unlinks
 pub mod Firsts
 pub mod Moves
 pub mod Looks
+pub mod Spans
 pub mod Maps

@@ -101,7 +101,7 @@ impl Buckets {
         let place = self.chains.heads[b]?;
         self.chains.unlink(&self.pool, b, place);
         self.pool.swap_remove(place as usize);
-        self.first = self.chains.earliest(&self.pool);
+        self.first = self.chains.next_first(&self.pool, &first);
         Some(first.held)
     }
 

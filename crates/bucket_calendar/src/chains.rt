@@ -1,5 +1,5 @@
 // The slots of each bucket, linked through the pool in order.
-ghost use Rattle.std.specs.Prelude.{[], ◌≡◌, ◌+◌, ℕ, List, ◌∷◌, ◌≤◌, ◌<◌, length, Some, ◌≢◌, take, slice_index_or, None};
+ghost use Rattle.std.specs.Prelude.{false, [], ◌≡◌, ◌+◌, ℕ, List, ◌∷◌, ◌≤◌, ◌<◌, length, Some, ◌≢◌, take, slice_index_or, None};
 ghost use Rattle.std.specs.List.{AllByRecursion, slice_get, swap_remove};
 ghost use Rattle.event.specs.Lists.{first};
 ghost use Rattle.slot.specs.declared.Slot.{Slot};
@@ -16,12 +16,15 @@ use slot::order::comes_before;
 // How many buckets there are.
 pub(crate) const BUCKETS: usize = 64;
 
+// How long the span of a bucket is.
+const SPAN: u32 = 64;
+
 // Each span of 64 in time has its bucket, and the spans go round all buckets.
 pub(crate) fn bucket(s: &Slot) -> usize
     ensures value { result ≡ bucket_of s.now }
     ensures within { result < 64 }
 {
-    (s.held.message.time / 64) as usize % BUCKETS
+    (s.held.message.time / SPAN) as usize % BUCKETS
 }
 
 // The last place in the chain from `start` whose slot comes before s.
@@ -126,6 +129,16 @@ impl Chains {
         ensures { Linked self.now.heads self.now.next pool.now → result ≡ first (ranked earlier pool.now) }
     {
         self.heads.iter().filter_map(|h| slot_at(pool, *h)).max()
+    }
+
+    // The first of those that are left, once `taken` was taken: the next of its bucket, if that is of the same span.
+    pub(crate) fn next_first(&self, pool: &[Slot], taken: &Slot) -> Option<Slot>
+        ensures { Linked self.now.heads self.now.next pool.now → AllByRecursion (λ y. earlier y taken.now ≡ false) (ranked earlier pool.now) → result ≡ first (ranked earlier pool.now) }
+    {
+        match slot_at(pool, self.heads[bucket(taken)]) {
+            Some(s) if s.held.message.time / SPAN == taken.held.message.time / SPAN => Some(s),
+            _ => self.earliest(pool),
+        }
     }
 
     // Number i, from 0, of the bucket b.

@@ -1,7 +1,10 @@
 -- The first goes, and its bucket is led by the next.
-use Rattle.std.proofs.Common.{◌≡◌, Some, sym, ap, ◌∙◌, subst, arith}
+use Rattle.std.proofs.Common.{false, ◌≡◌, Some, sym, ap, ◌∙◌, subst, arith}
 use Rattle.event.specs.Lists.{rest, first as head}
-use Rattle.slot.specs.Rank.{ranked}
+use Rattle.std.specs.List.{AllByRecursion}
+use Rattle.slot.specs.Rank.{ranked, Rising}
+use Rattle.slot.specs.Laws.{strictly}
+use Rattle.slot.proofs.Ranks.{ranked_rising}
 use Rattle.slot.specs.Slots.{earlier, bares}
 use Rattle.bucket_calendar.specs.Chains.{at, Linked}
 use Rattle.bucket_calendar.proofs.Moves.{sound_rest, first_at, first_somewhere, taken}
@@ -33,14 +36,15 @@ invariant_of-self c =
     let e = c.swap_remove.ensures in
     let hs = c.unlink.new.self.heads in
     let nx = c.unlink.new.self.next in
-    let q = c.earliest-self-inside.result in
+    let q = c.next_first-self-inside.result in
     let f = sym c.in_ok-first.was ∙ c.self.invariant.1.known in
     let p = first_at s.chains.heads s.chains.next xs x c.bucket-b.result i f c.bucket-b.ensures.value c.in_ok-place.was c.self.invariant.1.linked in
     let t = taken xs ys i c.swap_remove.result (sym f ∙ ap Some (sym p.1)) p.0 e.value e.items in
     let d : Linked hs nx ys = c.unlink.ensures c.swap_remove.result ys (rw c.deref.ensures.value e.items) (rw c.deref.ensures.value t) in (
       omega (arith, e.capacity, c.self.invariant.0),
       sound_rest s.puts s.first q s.chains.heads s.chains.next hs nx xs ys (at xs i) t c.self.invariant.1 d
-          (subst (λ l. Linked hs nx l → q ≡ head (ranked earlier l)) c.deref-2.ensures.value c.earliest-self-inside.ensures),
+          (λ _. subst (λ l. Linked hs nx l → AllByRecursion (λ y. earlier y x ≡ false) (ranked earlier l) → q ≡ head (ranked earlier l)) c.deref-2.ensures.value c.next_first-self-inside.ensures d
+          (subst (λ y. AllByRecursion (λ z. earlier z y ≡ false) (ranked earlier ys)) p.1 (subst (Rising earlier) t (ranked_rising earlier strictly xs)).0)),
     )
 
 pub returns-clause-held : goal.returns-clause-held
