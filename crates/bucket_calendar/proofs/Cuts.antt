@@ -1,12 +1,12 @@
 -- A walk along a chain, up to the last slot that comes before another.
-use Rattle.std.proofs.Common.{◌≡◌, ℕ, zero, suc, ◌+◌, ◌≤◌, true, false, List, [], ◌∷◌, ◌++◌, length, get_or, Some, None, Option, append_assoc, append-nil, sym, refl, ap, ◌∙◌, subst, arith}
+use Rattle.std.proofs.Common.{◌≡◌, ◌≢◌, inl, inr, ℕ, zero, suc, ◌+◌, ◌≤◌, true, false, List, [], ◌∷◌, ◌++◌, length, get_or, Some, None, Option, append_assoc, append-nil, sym, refl, ap, ◌∙◌, subst, arith}
 use Rattle.std.specs.List.{AllByRecursion, slice_get}
 use Rattle.std.proofs.lemmas.Option.{none-some, same_Some}
 use Rattle.std.proofs.lemmas.List.{length-append}
 use Rattle.slot.proofs.Picks.{at_none}
 use Rattle.slot.specs.declared.Slot.{Slot}
 use Rattle.slot.specs.Slots.{earlier}
-use Rattle.bucket_calendar.specs.Chains.{Runs, at}
+use Rattle.bucket_calendar.specs.Chains.{Runs, at, Among}
 use Rattle.bucket_calendar.specs.Cuts.{end_of, Stops, Cut, LeadsTo}
 
 pub front_all : {X : Type 0} (P : X → Type 0) (xs ys : List X) → AllByRecursion P (xs ++ ys) → AllByRecursion P xs
@@ -20,6 +20,35 @@ back_all P (x ∷ xs) ys h = back_all P xs ys h.1
 pub both_all : {X : Type 0} (P : X → Type 0) (xs ys : List X) → AllByRecursion P xs → AllByRecursion P ys → AllByRecursion P (xs ++ ys)
 both_all P [] ys h k = k
 both_all P (x ∷ xs) ys h k = (h.0, both_all P xs ys h.1 k)
+
+-- places of lists
+pub among_more : (p i : ℕ) (front back : List ℕ) → Among p (front ++ back) → Among p (front ++ i ∷ back)
+among_more p i [] back h = inr h
+among_more p i (q ∷ front) back (inl e) = inl e
+among_more p i (q ∷ front) back (inr h) = inr (among_more p i front back h)
+
+pub among_there : (i : ℕ) (front back : List ℕ) → Among i (front ++ i ∷ back)
+among_there i [] back = inl refl
+among_there i (q ∷ front) back = inr (among_there i front back)
+
+pub among_rest : (p q : ℕ) (ps : List ℕ) → p ≢ q → Among p (q ∷ ps) → Among p ps
+among_rest p q ps n (inl e) = absurd (n e)
+among_rest p q ps n (inr h) = h
+
+pub among_other : (p q i : ℕ) (front back : List ℕ) → p ≢ q → Among p (front ++ q ∷ back) → Among p (front ++ i ∷ back)
+among_other p q i [] back n h = inr (among_rest p q back n h)
+among_other p q i (r ∷ front) back n (inl e) = inl e
+among_other p q i (r ∷ front) back n (inr h) = inr (among_other p q i front back n h)
+
+pub among_all : (P : ℕ → Type 0) (p : ℕ) (ps : List ℕ) → Among p ps → AllByRecursion P ps → P p
+among_all P p [] h a = elim h [ ]
+among_all P p (q ∷ ps) (inl e) a = subst P (sym e) a.0
+among_all P p (q ∷ ps) (inr h) a = among_all P p ps h a.1
+
+pub among_split : (p : ℕ) (ps : List ℕ) → Among p ps → (front : List ℕ) × (back : List ℕ) × (ps ≡ front ++ p ∷ back)
+among_split p [] h = elim h [ ]
+among_split p (q ∷ ps) (inl e) = ([], ps, ap (λ k. k ∷ ps) (sym e))
+among_split p (q ∷ ps) (inr h) = let r = among_split p ps h in (q ∷ r.0, r.1, ap (λ l. q ∷ l) r.2)
 
 pub end_push : (ps : List ℕ) (p : ℕ) → end_of (ps ++ p ∷ []) ≡ Some p
 end_push [] p = refl

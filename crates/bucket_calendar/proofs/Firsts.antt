@@ -136,4 +136,5 @@ none_linked = record {
   runs = λ b h. get_or-replicate 64 b None None h;
   within = λ b h. tt;
   listed = λ b h. refl;
+  placed = λ p h. let z : ⊥ = omega (arith, h) in z;
 }

@@ -1,5 +1,7 @@
 pub mod Cuts
 pub mod Links
+pub mod Walks
+pub mod Starts
 pub mod Unlinks
 pub mod Firsts
 pub mod Moves

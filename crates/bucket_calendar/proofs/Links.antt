@@ -12,9 +12,9 @@ use Rattle.slot.specs.Laws.{strictly}
 use Rattle.slot.proofs.Picks.{kept_ins_yes, kept_ins_no, through, ranked_push}
 use Rattle.slot.proofs.Ranks.{ins_front, ranked_rising, length_ranked}
 use Rattle.bucket_calendar.specs.Buckets.{bucket_of, of_bucket, row_of}
-use Rattle.bucket_calendar.specs.Chains.{Runs, at, Chain, Linked}
+use Rattle.bucket_calendar.specs.Chains.{Runs, at, Among, Chain, Linked}
 use Rattle.bucket_calendar.specs.Cuts.{end_of, Stops, Cut}
-use Rattle.bucket_calendar.proofs.Cuts.{front_all, back_all, both_all}
+use Rattle.bucket_calendar.proofs.Cuts.{among_more, among_there, front_all, back_all, both_all}
 
 -- a link that is written where the chain does not pass
 pub runs_set : (nx : List (Option ℕ)) (q : ℕ) (v o : Option ℕ) (ps : List ℕ) → AllByRecursion (λ p. p ≢ q) ps → Runs nx o ps → Runs (set nx q v) o ps
@@ -143,20 +143,14 @@ module _ (hs nx : List (Option ℕ)) (xs : List Slot) (i : ℕ) (l : i < length 
   b_in : b < 64
   b_in = omega arith
 
-  long_ys : length ys ≡ i
+  pub long_ys : length ys ≡ i
   long_ys = length-take-le i xs (omega (arith, l))
 
-  below : (k : ℕ) → k < 64 → AllByRecursion (λ p. p < i) (d.row k)
+  pub below : (k : ℕ) → k < 64 → AllByRecursion (λ p. p < i) (d.row k)
   below k h = All-weaker (λ p. p < length ys) (λ p. p < i) (λ p e. omega (arith, e, long_ys)) (d.row k) (d.within k h)
 
-  pub link_chain : Chain (length xs) nx (get_or hs b None)
-  link_chain = record { places = d.row b; runs = d.runs b b_in; within = All-weaker (λ p. p < i) (λ p. p < length xs) (λ p e. omega (arith, e, l)) (d.row b) (below b b_in) }
-
-  pub link_runs : Runs nx (get_or hs b None) (d.row b)
-  link_runs = d.runs b b_in
-
-  pub link_short : length (d.row b) ≤ length xs
-  link_short = let s = row_short hs nx ys d b b_in in omega (arith, s, long_ys, l)
+  pub old_slots : (ps : List ℕ) → AllByRecursion (λ p. p < i) ps → map (at ys) ps ≡ map (at xs) ps
+  old_slots ps a = map_agree (at ys) (at xs) ps (All-weaker (λ p. p < i) (λ p. at ys p ≡ at xs p) (λ p e. at_take xs i p e) ps a)
 
   module _ (end : Option ℕ) (c : Cut xs (at xs i) (d.row b) end) where
     abbrev joined : List ℕ
@@ -173,9 +167,6 @@ module _ (hs nx : List (Option ℕ)) (xs : List Slot) (i : ℕ) (l : i < length 
 
     grown : ranked earlier (take (i + 1) xs) ≡ ins earlier (at xs i) (ranked earlier ys)
     grown = ap (ranked earlier) (take_more xs i _ l) ∙ ranked_push earlier strictly ys (at xs i)
-
-    old_slots : (ps : List ℕ) → AllByRecursion (λ p. p < i) ps → map (at ys) ps ≡ map (at xs) ps
-    old_slots ps a = map_agree (at ys) (at xs) ps (All-weaker (λ p. p < i) (λ p. at ys p ≡ at xs p) (λ p e. at_take xs i p e) ps a)
 
     new_slots : (ps : List ℕ) → AllByRecursion (λ p. p < i + 1) ps → map (at (take (i + 1) xs)) ps ≡ map (at xs) ps
     new_slots ps a = map_agree (at (take (i + 1) xs)) (at xs) ps (All-weaker (λ p. p < i + 1) (λ p. at (take (i + 1) xs) p ≡ at xs p) (λ p e. at_take xs (i + 1) p e) ps a)
@@ -205,6 +196,21 @@ module _ (hs nx : List (Option ℕ)) (xs : List Slot) (i : ℕ) (l : i < length 
         ∙ sym (kept_ins_no earlier strictly (of_bucket k) (at xs i) (ranked earlier ys) (other_bucket (at xs i) k n))
         ∙ ap (filter (of_bucket k)) (sym grown)
 
+    abbrev grown_row : ℕ → List ℕ
+    grown_row k = cond (eqb k b) joined (d.row k)
+
+    at_new : i < i + 1 → Among i (grown_row (bucket_of (at (take (i + 1) xs) i)))
+    at_new h = subst (λ s. Among i (grown_row (bucket_of s))) (sym (at_take xs (i + 1) i h)) (subst (λ t. Among i (cond t joined (d.row b))) (sym (eq-eqb b b refl)) (among_there i c.front c.back))
+
+    at_old : (p : ℕ) → p < i → Among p (grown_row (bucket_of (at (take (i + 1) xs) p)))
+    at_old p h =
+        let w : Among p (d.row (bucket_of (at xs p))) = subst (λ s. Among p (d.row (bucket_of s))) (at_take xs i p h) (d.placed p (omega (arith, h, long_ys))) in
+        subst (λ s. Among p (grown_row (bucket_of s))) (sym (at_take xs (i + 1) p (omega (arith, h))))
+        (⊎_elim
+        (λ (g : bucket_of (at xs p) ≡ b). subst (λ t. Among p (cond t joined (d.row (bucket_of (at xs p))))) (sym (eq-eqb (bucket_of (at xs p)) b g))
+        (among_more p i c.front c.back (subst (Among p) c.parts (subst (λ k. Among p (d.row k)) g w))))
+        (λ (g : bucket_of (at xs p) ≢ b). subst (λ t. Among p (cond t joined (d.row (bucket_of (at xs p))))) (sym (ne_eqb (bucket_of (at xs p)) b g)) w) (cases_eq (bucket_of (at xs p)) b))
+
     -- with links that lead through the place, and as before through the other rows
     rebuilt : (hs' nx' : List (Option ℕ)) → length hs' ≡ 64 → length nx' ≡ 512 → Runs nx' (get_or hs' b None) joined → ((k : ℕ) → k < 64 → k ≢ b → Runs nx' (get_or hs' k None) (d.row k))
         → Linked hs' nx' (take (i + 1) xs)
@@ -215,6 +221,7 @@ module _ (hs nx : List (Option ℕ)) (xs : List Slot) (i : ℕ) (l : i < length 
       runs = pick (λ k. Runs nx' (get_or hs' k None)) b joined d.row own others;
       within = pick (λ _. AllByRecursion (λ p. p < length (take (i + 1) xs))) b joined d.row (fit joined joined_below) (λ k h _. fit (d.row k) (wider (d.row k) (below k h)));
       listed = pick (λ k r. map (at (take (i + 1) xs)) r ≡ row_of k (take (i + 1) xs)) b joined d.row joined_listed other_listed;
+      placed = λ p e. ⊎_elim (λ (g : p ≡ i). subst (λ q. Among q (grown_row (bucket_of (at (take (i + 1) xs) q)))) (sym g) (at_new (omega arith))) (λ (g : p ≢ i). at_old p (let f : length (take (i + 1) xs) ≡ i + 1 = length-take-le (i + 1) xs (omega (arith, l)) in omega (arith, e, f, g))) (cases_eq p i);
     }
       where
         fit : (ps : List ℕ) → AllByRecursion (λ p. p < i + 1) ps → AllByRecursion (λ p. p < length (take (i + 1) xs)) ps

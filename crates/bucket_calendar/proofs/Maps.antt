@@ -11,8 +11,8 @@ use Rattle.slot.proofs.Ranks.{ins_comm}
 use Rattle.slot.specs.declared.Slot.{Slot}
 use Rattle.std.specs.Prelude.{nat_lt, Option}
 use Rattle.event.specs.Lists.{first}
-use Rattle.bucket_calendar.specs.Buckets.{of_bucket}
-use Rattle.bucket_calendar.specs.Chains.{at, Linked, Sound}
+use Rattle.bucket_calendar.specs.Buckets.{bucket_of, of_bucket}
+use Rattle.bucket_calendar.specs.Chains.{at, Among, Linked, Sound}
 use Rattle.slot.specs.Slots.{by_key, key_of_slot, earlier, ahead, steady, bares, in_order, Young}
 use Rattle.slot.specs.Laws.{strictly}
 use Rattle.slot.proofs.Picks.{Climbs, climbs_kept, ins_first, kept_ranked}
@@ -103,6 +103,9 @@ linked_changed g e hs nx xs ys f s d = subst (Linked hs nx) (sym f) (record {
   runs = d.runs;
   within = λ b h. All-weaker (λ p. p < length xs) (λ p. p < length (map (changed g) xs)) (λ p k. omega (arith, k, length-map xs (changed g))) (d.row b) (d.within b h);
   listed = λ b h. places (d.row b) (d.within b h) ∙ ap (map (changed g)) (d.listed b h) ∙ kept_changed g e b (ranked earlier xs) ∙ ap (filter (of_bucket b)) (sym (ranked_changed g e xs s));
+  placed = λ p k.
+      let l : p < length xs = omega (arith, k, length-map xs (changed g)) in
+      subst (λ b. Among p (d.row b)) (ap (λ t. t.time / 64 % 64) (sym (e (at xs p).held)) ∙ ap bucket_of (sym (get_changed xs p l))) (d.placed p l);
 })
   where
     get_changed : (l : List Slot) (p : ℕ) → p < length l → at (map (changed g) l) p ≡ changed g (at l p)

@@ -1,18 +1,24 @@
 -- A place that leaves its chain, and the last slot of the pool that moves there.
-use Rattle.std.proofs.Common.{◌≡◌, ◌≢◌, ℕ, suc, ◌-◌, ◌<◌, ◌≤◌, true, cond, List, [], ◌∷◌, ◌++◌, length, map, filter, get_or, set, Some, None, Option, sym, refl, ap, ◌∙◌, subst, arith, get_or-set_other, get_or-set_same, eqb, ⊎_elim}
-use Rattle.std.proofs.lemmas.Bool.{cases_eq}
+use Rattle.std.proofs.Common.{◌≡◌, ◌≢◌, inl, inr, ℕ, suc, ◌-◌, ◌<◌, ◌≤◌, true, cond, List, [], ◌∷◌, ◌++◌, length, map, filter, get_or, set, Some, None, Option, sym, refl, ap, ◌∙◌, subst, arith, get_or-set_other, get_or-set_same, eqb, ⊎_elim}
+use Rattle.std.proofs.lemmas.Bool.{cases_eq, eq-eqb, both_ways}
 use Rattle.std.specs.List.{AllByRecursion, swap_remove}
 use Rattle.std.proofs.ByRecursion.{All-weaker}
 use Rattle.std.proofs.lemmas.List.{get_or-take, get_or_default, length-set, length-take-le}
 use Rattle.event.specs.Lists.{rest}
-use Rattle.slot.specs.Rank.{ranked}
+use Rattle.std.proofs.lemmas.Option.{same_Some}
+use Rattle.slot.specs.Rank.{ranked, Rising}
+use Rattle.slot.specs.Laws.{strictly}
+use Rattle.slot.proofs.Picks.{never_self}
 use Rattle.slot.specs.declared.Slot.{Slot}
 use Rattle.slot.specs.Slots.{earlier}
 use Rattle.bucket_calendar.specs.Buckets.{bucket_of, of_bucket, row_of}
-use Rattle.bucket_calendar.specs.Chains.{Runs, at, blank, Chain, Linked}
+use Rattle.bucket_calendar.specs.Chains.{Runs, at, Among, blank, Chain, Linked}
 use Rattle.bucket_calendar.specs.Cuts.{end_of, LeadsTo}
-use Rattle.bucket_calendar.proofs.Cuts.{front_all, back_all, both_all, next_place}
-use Rattle.bucket_calendar.proofs.Links.{runs_set, end_in, runs_apart, runs_after, runs_splice, map_agree, own_bucket, other_bucket, pick, row_short, row_bucket, rows_apart}
+use Rattle.bucket_calendar.proofs.Cuts.{among_split, among_there, among_rest, among_other, among_all, front_all, back_all, both_all, next_place}
+use Rattle.bucket_calendar.specs.Hints.{Near, Begins}
+use Rattle.bucket_calendar.proofs.Walks.{runs_from, leads_behind, not_in_front}
+use Rattle.bucket_calendar.proofs.Starts.{behind_short}
+use Rattle.bucket_calendar.proofs.Links.{row_rising, runs_set, end_in, runs_apart, runs_after, runs_splice, map_agree, own_bucket, other_bucket, pick, row_short, row_bucket, rows_apart}
 
 -- chains through the places of a pool, none of them at the place that is left
 pub record Loose (hs nx : List (Option ℕ)) (xs : List Slot) (place : ℕ) : Type 0 where
@@ -24,6 +30,7 @@ pub record Loose (hs nx : List (Option ℕ)) (xs : List Slot) (place : ℕ) : Ty
   pub gone : (b : ℕ) → b < 64 → AllByRecursion (λ p. p ≢ place) (row b)
   pub own : (b : ℕ) → b < 64 → AllByRecursion (λ p. bucket_of (at xs p) ≡ b) (row b)
   pub short : (b : ℕ) → b < 64 → length (row b) ≤ length xs
+  pub placed : (p : ℕ) → p < length xs → p ≢ place → Among p (row (bucket_of (at xs p)))
   pub listed : (ys : List Slot) → ranked earlier xs ≡ at xs place ∷ ranked earlier ys → (b : ℕ) → b < 64 → map (at xs) (row b) ≡ row_of b ys
 
 module _ (hs nx : List (Option ℕ)) (xs : List Slot) (b place : ℕ) (h : b < 64) (e : get_or hs b None ≡ Some place) (d : Linked hs nx xs) where
@@ -66,6 +73,9 @@ module _ (hs nx : List (Option ℕ)) (xs : List Slot) (b place : ℕ) (h : b < 6
     own = pick (λ k. AllByRecursion (λ p. bucket_of (at xs p) ≡ k)) b others d.row (split (λ p. bucket_of (at xs p) ≡ b) (row_bucket hs nx xs d b h)).1 (λ k l _. row_bucket hs nx xs d k l);
     short = pick (λ _ r. length r ≤ length xs) b others d.row (let s = row_short hs nx xs d b h in let f : length (d.row b) ≡ suc (length others) = ap length after.1 in omega (arith, s, f)) (λ k l _. row_short hs nx xs d k l);
     listed = without_first;
+    placed = λ p l n. pick (λ k r. k ≡ bucket_of (at xs p) → Among p r) b others d.row
+        (λ g. among_rest p place others n (subst (Among p) after.1 (subst (λ k. Among p (d.row k)) (sym g) (d.placed p l))))
+        (λ k _ _ g. subst (λ j. Among p (d.row j)) (sym g) (d.placed p l)) (bucket_of (at xs p)) (omega arith) refl;
   }
 
 module _ (hs nx : List (Option ℕ)) (xs : List Slot) (place : ℕ) (z : place < length xs) (few : length xs ≤ 512) (o : Loose hs nx xs place) where
@@ -87,14 +97,38 @@ module _ (hs nx : List (Option ℕ)) (xs : List Slot) (place : ℕ) (z : place <
   copied_runs : (k : ℕ) → k < 64 → Runs copied (get_or hs k None) (o.row k)
   copied_runs k h = runs_set nx place (get_or nx m None) (get_or hs k None) (o.row k) (o.gone k h) (o.runs k h)
 
-  pub moved_runs : Runs copied (get_or hs c None) (o.row c)
-  moved_runs = copied_runs c c_in
+  -- a chain from o: what leads to the last slot in it does so in the chain of its bucket
+  pub record Moving (q : Option ℕ) : Type 0 where
+    pub places : List ℕ
+    pub runs : Runs copied q places
+    pub within : AllByRecursion (λ p. p < 512) places
+    pub short : length places ≤ 512
+    pub leads : (k : ℕ) → LeadsTo k m places → LeadsTo k m (o.row c)
+    pub none : Rising earlier (map (at xs) (o.row c)) → AllByRecursion (λ p. p ≢ m) places → AllByRecursion (λ p. p ≢ m) (o.row c)
+    pub head : q ≡ Some m → get_or hs c None ≡ Some m
 
-  pub moved_chain : Chain 512 copied (get_or hs c None)
-  moved_chain = record { places = o.row c; runs = moved_runs; within = All-weaker (λ p. p < length xs) (λ p. p < 512) (λ p e. omega (arith, e, few)) (o.row c) (o.within c c_in) }
+  inside : AllByRecursion (λ p. p < 512) (o.row c)
+  inside = All-weaker (λ p. p < length xs) (λ p. p < 512) (λ p e. omega (arith, e, few)) (o.row c) (o.within c c_in)
 
-  pub moved_short : length (o.row c) ≤ 512
-  moved_short = let s = o.short c c_in in omega (arith, s, few)
+  short_row : length (o.row c) ≤ 512
+  short_row = let s = o.short c c_in in omega (arith, s, few)
+
+  moving_from : (q : Option ℕ) (p : ℕ) → q ≡ Some p → earlier (at xs p) (at xs m) ≡ true → (front back : List ℕ) → o.row c ≡ front ++ p ∷ back → Moving q
+  moving_from q p e n front back w = record {
+    places = p ∷ back;
+    runs = subst (λ t. Runs copied t (p ∷ back)) (sym e) (runs_from copied (get_or hs c None) front back p (subst (Runs copied (get_or hs c None)) w (copied_runs c c_in)));
+    within = back_all (λ k. k < 512) front (p ∷ back) (subst (AllByRecursion (λ k. k < 512)) w inside);
+    short = behind_short front (p ∷ back) 512 (subst (λ ps. length ps ≤ 512) w short_row);
+    leads = λ k t. subst (LeadsTo k m) (sym w) (leads_behind k m p front back t);
+    none = λ r a. subst (AllByRecursion (λ k. k ≢ m)) (sym w) (not_in_front xs m p front back (subst (λ ps. Rising earlier (map (at xs) ps)) w r) n (never_self earlier strictly (at xs m)) a);
+    head = λ f. absurd (both_ways (earlier (at xs m) (at xs m)) (never_self earlier strictly (at xs m)) (subst (λ k. earlier (at xs k) (at xs m) ≡ true) (same_Some p m (sym e ∙ f)) n));
+  }
+
+  pub moving : (q : Option ℕ) → Begins hs xs (at xs m) place q → Moving q
+  moving q (inl e) = record { places = o.row c; runs = subst (λ t. Runs copied t (o.row c)) (sym e) (copied_runs c c_in); within = inside; short = short_row; leads = λ k t. t; none = λ r a. a; head = λ f. sym e ∙ f }
+  moving q (inr (p, e, n, near)) =
+      let t = among_split p (o.row c) (subst (λ k. Among p (o.row k)) near.alike (o.placed p near.within n)) in
+      moving_from q p e near.sooner t.0 t.1 t.2
 
   pub leader_in : (k : ℕ) → LeadsTo k m (o.row c) → k < 512
   leader_in k t = let w = end_in (λ p. p < length xs) t.front k t.ends (front_all (λ p. p < length xs) t.front (m ∷ t.back) (subst (AllByRecursion (λ p. p < length xs)) t.parts (o.within c c_in))) in omega (arith, w, few)
@@ -136,6 +170,9 @@ module _ (hs nx : List (Option ℕ)) (xs : List Slot) (place : ℕ) (z : place <
     same_slots ps a = map_agree (at ys) (at xs) ps (All-weaker Stays (λ p. at ys p ≡ at xs p) (λ p f. f.1) ps a)
 
     -- where no chain leads to the last slot
+    pub row_rises : Rising earlier (map (at xs) (o.row c))
+    row_rises = subst (Rising earlier) (sym (o.listed ys r c c_in)) (row_rising c ys)
+
     pub unmoved : AllByRecursion (λ p. p ≢ m) (o.row c) → Linked hs copied ys
     unmoved n = record {
       wide = o.wide;
@@ -144,8 +181,13 @@ module _ (hs nx : List (Option ℕ)) (xs : List Slot) (place : ℕ) (z : place <
       runs = copied_runs;
       within = λ k h. fits (o.row k) (stays k h);
       listed = λ k h. same_slots (o.row k) (stays k h) ∙ o.listed ys r k h;
+      placed = λ p l. subst (λ s. Among p (o.row (bucket_of s))) (sym (at_stay p (omega (arith, l, length_ys)) (last_left p (omega (arith, l, length_ys))))) (o.placed p (omega (arith, l, length_ys)) (last_left p (omega (arith, l, length_ys))));
     }
       where
+        -- so the last slot is the one that leaves
+        last_left : (p : ℕ) → p < m → p ≢ place
+        last_left p l w = among_all (λ q. q ≢ m) m (o.row c) (o.placed m (omega (arith, z)) (λ v. let y : ⊥ = omega (arith, l, v, w) in y)) n refl
+
         stays : (k : ℕ) → k < 64 → AllByRecursion Stays (o.row k)
         stays k h = stay (o.row k) (o.within k h) (o.gone k h) (⊎_elim (λ (f : k ≡ c). subst (λ j. AllByRecursion (λ p. p ≢ m) (o.row j)) (sym f) n) (λ (f : k ≢ c). elsewhere k h f) (cases_eq k c))
 
@@ -155,7 +197,7 @@ module _ (hs nx : List (Option ℕ)) (xs : List Slot) (place : ℕ) (z : place <
       through_m P a = let t = subst (AllByRecursion P) parts a in (front_all P front (m ∷ back) t, back_all P front (m ∷ back) t)
 
       runs_m : Runs copied (get_or hs c None) (front ++ m ∷ back)
-      runs_m = subst (Runs copied (get_or hs c None)) parts moved_runs
+      runs_m = subst (Runs copied (get_or hs c None)) parts (copied_runs c c_in)
 
       m_not_left : m ≢ place
       m_not_left = (through_m (λ p. p ≢ place) (o.gone c c_in)).1.0
@@ -192,6 +234,9 @@ module _ (hs nx : List (Option ℕ)) (xs : List Slot) (place : ℕ) (z : place <
       new_listed [] a = ap (λ s. s ∷ map (at ys) back) (at_moved left_in) ∙ ap (λ t. at xs m ∷ t) (same_slots back back_stays)
       new_listed (p ∷ f) a = ap (λ s. s ∷ map (at ys) (f ++ place ∷ back)) a.0.1 ∙ ap (λ t. at xs p ∷ t) (new_listed f a.1)
 
+      abbrev new_rows : ℕ → List ℕ
+      new_rows k = cond (eqb k c) new_row (o.row k)
+
       relinked : (hs' nx' : List (Option ℕ)) → length hs' ≡ 64 → length nx' ≡ 512 → Runs nx' (get_or hs' c None) new_row → ((k : ℕ) → k < 64 → k ≢ c → Runs nx' (get_or hs' k None) (o.row k)) → Linked hs' nx' ys
       relinked hs' nx' w n own others = record {
         wide = w;
@@ -200,8 +245,20 @@ module _ (hs nx : List (Option ℕ)) (xs : List Slot) (place : ℕ) (z : place <
         runs = pick (λ k. Runs nx' (get_or hs' k None)) c new_row o.row own others;
         within = pick (λ _. AllByRecursion (λ p. p < length ys)) c new_row o.row (both_all (λ p. p < length ys) front (place ∷ back) (fits front front_stays) (omega (arith, left_in, length_ys), fits back back_stays)) (λ k h f. fits (o.row k) (rest_stays k h f));
         listed = pick (λ k r. map (at ys) r ≡ row_of k ys) c new_row o.row (new_listed front front_stays ∙ ap (map (at xs)) (sym parts) ∙ o.listed ys r c c_in) (λ k h f. same_slots (o.row k) (rest_stays k h f) ∙ o.listed ys r k h);
+        placed = λ p l. ⊎_elim
+            (λ (g : p ≡ place). subst (λ q. Among q (new_rows (bucket_of (at ys q)))) (sym g) (subst (λ s. Among place (new_rows (bucket_of s))) (sym (at_moved left_in)) (subst (λ t. Among place (cond t new_row (o.row c))) (sym (eq-eqb c c refl)) (among_there place front back))))
+            (λ (g : p ≢ place). old_place p (omega (arith, l, length_ys)) g) (cases_eq p place);
       }
         where
+          old_place : (p : ℕ) → p < m → p ≢ place → Among p (new_rows (bucket_of (at ys p)))
+          old_place p l g =
+              let w : Among p (o.row (bucket_of (at xs p))) = o.placed p (omega (arith, l)) g in
+              let u : p ≢ m = λ v. let y : ⊥ = omega (arith, l, v) in y in
+              subst (λ s. Among p (new_rows (bucket_of s))) (sym (at_stay p l g))
+              (pick (λ k t. k ≡ bucket_of (at xs p) → Among p t) c new_row o.row
+              (λ q. among_other p m place front back u (subst (Among p) parts (subst (λ k. Among p (o.row k)) (sym q) w)))
+              (λ k _ _ q. subst (λ j. Among p (o.row j)) (sym q) w) (bucket_of (at xs p)) (omega arith) refl)
+
           rest_stays : (k : ℕ) → k < 64 → k ≢ c → AllByRecursion Stays (o.row k)
           rest_stays k h f = stay (o.row k) (o.within k h) (o.gone k h) (elsewhere k h f)
 
@@ -248,7 +305,7 @@ module _ (hs nx : List (Option ℕ)) (xs : List Slot) (place : ℕ) (z : place <
 
     -- where its bucket's chain begins with it
     pub led_first : get_or hs c None ≡ Some m → Linked (set hs c (Some place)) copied ys
-    led_first f = from (next_place copied (get_or hs c None) m (o.row c) moved_runs f)
+    led_first f = from (next_place copied (get_or hs c None) m (o.row c) (copied_runs c c_in) f)
       where
         from : (qs : List ℕ) × (o.row c ≡ m ∷ qs) × Runs copied (get_or copied m None) qs → Linked (set hs c (Some place)) copied ys
         from t = relinked [] t.0 t.1 (set hs c (Some place)) copied (length-set hs c (Some place) ∙ o.wide) copied_long

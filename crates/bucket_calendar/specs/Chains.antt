@@ -1,11 +1,11 @@
 -- The links from slot to slot of each bucket.
-use Rattle.std.specs.Prelude.{◌≡◌, ◌≢◌, ℕ, ◌<◌, true, List, [], ◌∷◌, length, map, Some, None, Option, slice_index_or}
+use Rattle.std.specs.Prelude.{◌≡◌, ◌≢◌, ◌⊎◌, ℕ, ◌<◌, true, List, [], ◌∷◌, length, map, Some, None, Option, slice_index_or}
 use Rattle.std.specs.List.{AllByRecursion, slice_get}
 use Rattle.event.specs.Lists.{first}
 use Rattle.slot.specs.declared.Slot.{Slot}
 use Rattle.slot.specs.Slots.{earlier, steady, Young}
 use Rattle.slot.specs.Rank.{ranked}
-use Rattle.bucket_calendar.specs.Buckets.{row_of}
+use Rattle.bucket_calendar.specs.Buckets.{bucket_of, row_of}
 
 -- the links lead from o through these places, each once, and end
 abbrev pub Runs : List (Option ℕ) → Option ℕ → List ℕ → Type 0
@@ -26,7 +26,12 @@ pub record Chain (n : ℕ) (next : List (Option ℕ)) (o : Option ℕ) : Type 0 
   pub runs : Runs next o places
   pub within : AllByRecursion (λ p. p < n) places
 
--- the chain of each of the 64 buckets leads through its slots, in order
+-- p is one of these places
+abbrev pub Among : ℕ → List ℕ → Type 0
+Among p [] = ⊥
+Among p (q ∷ ps) = (p ≡ q) ⊎ Among p ps
+
+-- the chain of each of the 64 buckets leads through its slots, in order, and each place of the pool stands in the chain of its bucket
 pub record Linked (heads next : List (Option ℕ)) (xs : List Slot) : Type 0 where
   pub wide : length heads ≡ 64
   pub long : length next ≡ 512
@@ -34,6 +39,7 @@ pub record Linked (heads next : List (Option ℕ)) (xs : List Slot) : Type 0 whe
   pub runs : (b : ℕ) → b < 64 → Runs next (slice_index_or heads b None) (row b)
   pub within : (b : ℕ) → b < 64 → AllByRecursion (λ p. p < length xs) (row b)
   pub listed : (b : ℕ) → b < 64 → map (at xs) (row b) ≡ row_of b xs
+  pub placed : (p : ℕ) → p < length xs → Among p (row (bucket_of (at xs p)))
 
 -- what stands at the place o, if that is one
 abbrev pub slot_at : List Slot → Option ℕ → Option Slot

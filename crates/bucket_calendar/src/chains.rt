@@ -1,5 +1,5 @@
 // The slots of each bucket, linked through the pool in order.
-ghost use Rattle.std.specs.Prelude.{false, [], ◌≡◌, ◌+◌, ℕ, List, ◌∷◌, ◌≤◌, ◌<◌, length, Some, ◌≢◌, take, slice_index_or, None};
+ghost use Rattle.std.specs.Prelude.{true, false, [], ◌≡◌, ◌+◌, ℕ, List, ◌∷◌, ◌≤◌, ◌<◌, length, Some, ◌≢◌, take, slice_index_or, None};
 ghost use Rattle.std.specs.List.{AllByRecursion, slice_get, swap_remove};
 ghost use Rattle.event.specs.Lists.{first};
 ghost use Rattle.slot.specs.declared.Slot.{Slot};
@@ -8,6 +8,7 @@ ghost use Rattle.slot.specs.Slots.{earlier};
 ghost use Rattle.bucket_calendar.specs.Buckets.{bucket_of, row_of};
 ghost use Rattle.bucket_calendar.specs.Chains.{Runs, at, slot_at, Chain, Linked};
 ghost use Rattle.bucket_calendar.specs.Cuts.{Cut, LeadsTo};
+ghost use Rattle.bucket_calendar.specs.Hints.{Near, Begins};
 
 use crate::store::CAPACITY;
 use slot::Slot;
@@ -18,6 +19,11 @@ pub(crate) const BUCKETS: usize = 64;
 
 // How long the span of a bucket is.
 const SPAN: u32 = 64;
+
+// How many hints there are, of times that go round them, and how many times are looked at for one.
+const HINTS: usize = 1024;
+
+const REACH: u32 = 4;
 
 // Each span of 64 in time has its bucket, and the spans go round all buckets.
 pub(crate) fn bucket(s: &Slot) -> usize
@@ -95,11 +101,22 @@ fn slot_at(pool: &[Slot], place: Option<u16>) -> Option<Slot>
     pool.get(place? as usize).copied()
 }
 
-// Where the first slot of each bucket lies, and after each slot the next one of its bucket.
+// Whether the slot at the place, if it is one, is of the bucket of s and comes before s.
+fn is_near(pool: &[Slot], place: u16, s: &Slot) -> bool
+    ensures { result ≡ true → Near pool.now s.now place }
+{
+    match pool.get(place as usize) {
+        Some(t) => bucket(t) == bucket(s) && comes_before(t, s),
+        None => false,
+    }
+}
+
+// Where the first slot of each bucket lies, and after each slot the next one of its bucket. A hint is where a slot of about that time was put. It only tells where a walk may begin, and one that does not fit is passed over.
 #[derive(Clone, Copy)]
 pub(crate) struct Chains {
     pub(crate) heads: [Option<u16>; BUCKETS],
     pub(crate) next: [Option<u16>; CAPACITY],
+    hints: [u16; HINTS],
 }
 
 impl Chains {
@@ -109,6 +126,7 @@ impl Chains {
         Chains {
             heads: [None; BUCKETS],
             next: [None; CAPACITY],
+            hints: [0; HINTS],
         }
     }
 
@@ -151,6 +169,20 @@ impl Chains {
         slot_at(pool, nth_place(&self.next, self.heads[b], i))
     }
 
+    // Where a walk for s may begin: at another place than `but` whose slot comes before s in its bucket, if a hint tells one, and else at the head.
+    fn start(&self, pool: &[Slot], s: &Slot, but: u16) -> Option<u16>
+        ensures { Begins self.now.heads pool.now s.now but result }
+    {
+        for back in 0..REACH {
+            let time = s.held.message.time.wrapping_sub(back);
+            let place = self.hints[time as usize % HINTS];
+            if place != but && is_near(pool, place, s) {
+                return Some(place);
+            }
+        }
+        self.heads[bucket(s)]
+    }
+
     // The slot at `place` joins the chain of its bucket. The slots before it are linked.
     pub(crate) fn link(&mut self, pool: &[Slot], place: u16)
         requires linked { Linked self.old.heads self.old.next (take place pool.now) }
@@ -160,7 +192,9 @@ impl Chains {
     {
         let s = &pool[place as usize];
         let b = bucket(s);
-        match last_before(pool, &self.next, self.heads[b], s) {
+        let start = self.start(&pool[..place as usize], s, place);
+        self.hints[s.held.message.time as usize % HINTS] = place;
+        match last_before(pool, &self.next, start, s) {
             None => {
                 self.next[place as usize] = self.heads[b];
                 self.heads[b] = Some(place);
@@ -183,10 +217,12 @@ impl Chains {
         self.heads[b] = self.next[place as usize];
         let last = (pool.len() - 1) as u16;
         self.next[place as usize] = self.next[last as usize];
-        let c = bucket(&pool[last as usize]);
-        if self.heads[c] == Some(last) {
-            self.heads[c] = Some(place);
-        } else if let Some(k) = leads_to(&self.next, self.heads[c], last) {
+        let moved = &pool[last as usize];
+        let start = self.start(pool, moved, place);
+        self.hints[moved.held.message.time as usize % HINTS] = place;
+        if start == Some(last) {
+            self.heads[bucket(moved)] = Some(place);
+        } else if let Some(k) = leads_to(&self.next, start, last) {
             self.next[k as usize] = Some(place);
         }
     }
