@@ -12,7 +12,7 @@ use Rattle.slot.specs.Laws.{strictly}
 use Rattle.slot.proofs.Picks.{kept_ins_yes, kept_ins_no, through, ranked_push}
 use Rattle.slot.proofs.Ranks.{ins_front, ranked_rising, length_ranked}
 use Rattle.bucket_calendar.specs.Buckets.{bucket_of, of_bucket, row_of}
-use Rattle.bucket_calendar.specs.Chains.{Runs, at, Among, Chain, Linked}
+use Rattle.bucket_calendar.specs.Chains.{Runs, at, Among, Linked}
 use Rattle.bucket_calendar.specs.Cuts.{end_of, Stops, Cut}
 use Rattle.bucket_calendar.proofs.Cuts.{among_more, among_there, front_all, back_all, both_all}
 
@@ -259,6 +259,9 @@ module _ (hs nx : List (Option ℕ)) (xs : List Slot) (i : ℕ) (l : i < length 
 
     pub after_in : q < i
     after_in = in_front (λ p. p < i) (below b b_in)
+
+    pub after_bucket : bucket_of (at xs q) ≡ b
+    after_bucket = ap bucket_of (sym (at_take xs i q after_in)) ∙ in_front (λ p. bucket_of (at ys p) ≡ b) (row_bucket hs nx ys d b b_in)
 
     not_new : q ≢ i
     not_new z = let y : ⊥ = omega (arith, after_in, z) in y

@@ -1,11 +1,10 @@
 -- What is left in the span of the first is earlier than all other spans.
-use Rattle.std.proofs.Common.{◌≡◌, ℕ, ◌<◌, ◌≤◌, ◌/◌, ◌%◌, Bool, true, false, cond, List, [], ◌∷◌, Some, None, filter, Option, get_or, map, sym, ap, ◌∙◌, ⊎_elim, arith}
-use Rattle.std.specs.List.{AllByRecursion, slice_get}
+use Rattle.std.proofs.Common.{◌≡◌, ℕ, ◌<◌, ◌≤◌, ◌/◌, ◌%◌, true, false, cond, List, [], ◌∷◌, Some, None, filter, Option, get_or, sym, ap, ◌∙◌, ⊎_elim, arith}
+use Rattle.std.specs.List.{AllByRecursion}
 use Rattle.std.proofs.ByRecursion.{all_kept_by}
 use Rattle.std.proofs.lemmas.Bool.{cases_eq, cases_lt, both_ways, eq-eqb, ne_eqb}
 use Rattle.std.proofs.lemmas.Option.{none-some}
 use Rattle.event.proofs.Orders.{sooner}
-use Rattle.event.specs.Keys.{before}
 use Rattle.event.specs.Lists.{first as head}
 use Rattle.slot.specs.Rank.{ranked, Rising}
 use Rattle.slot.specs.declared.Slot.{Slot}
@@ -13,7 +12,7 @@ use Rattle.slot.specs.Slots.{earlier, key_of_slot}
 use Rattle.slot.specs.Laws.{strictly, not_before, before_ahead, ahead_earlier}
 use Rattle.slot.proofs.Picks.{all_at, at_zero}
 use Rattle.slot.proofs.Ranks.{ranked_rising}
-use Rattle.bucket_calendar.specs.Buckets.{bucket_of, of_bucket, row_of}
+use Rattle.bucket_calendar.specs.Buckets.{bucket_of, of_bucket}
 use Rattle.bucket_calendar.specs.Chains.{slot_at, Linked}
 use Rattle.bucket_calendar.proofs.Firsts.{top_of}
 

@@ -12,10 +12,10 @@ use Rattle.slot.proofs.Picks.{never_self}
 use Rattle.slot.specs.declared.Slot.{Slot}
 use Rattle.slot.specs.Slots.{earlier}
 use Rattle.bucket_calendar.specs.Buckets.{bucket_of, of_bucket, row_of}
-use Rattle.bucket_calendar.specs.Chains.{Runs, at, Among, blank, Chain, Linked}
+use Rattle.bucket_calendar.specs.Chains.{Runs, at, Among, blank, Linked}
 use Rattle.bucket_calendar.specs.Cuts.{end_of, LeadsTo}
 use Rattle.bucket_calendar.proofs.Cuts.{among_split, among_there, among_rest, among_other, among_all, front_all, back_all, both_all, next_place}
-use Rattle.bucket_calendar.specs.Hints.{Near, Begins}
+use Rattle.bucket_calendar.specs.Hints.{Begins}
 use Rattle.bucket_calendar.proofs.Walks.{runs_from, leads_behind, not_in_front}
 use Rattle.bucket_calendar.proofs.Starts.{behind_short}
 use Rattle.bucket_calendar.proofs.Links.{row_rising, runs_set, end_in, runs_apart, runs_after, runs_splice, map_agree, own_bucket, other_bucket, pick, row_short, row_bucket, rows_apart}

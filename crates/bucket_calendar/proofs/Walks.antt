@@ -1,5 +1,5 @@
 -- A walk that begins at a place whose slot comes before another.
-use Rattle.std.proofs.Common.{◌≡◌, ◌≢◌, ℕ, suc, ◌+◌, ◌<◌, ◌≤◌, Bool, true, false, List, [], ◌∷◌, ◌++◌, length, map, Some, None, Option, append_assoc, sym, refl, ap, ◌∙◌, subst, ⊎_elim, arith}
+use Rattle.std.proofs.Common.{◌≡◌, ◌≢◌, ℕ, true, false, List, [], ◌∷◌, ◌++◌, map, Some, Option, append_assoc, sym, refl, ap, ◌∙◌, subst, ⊎_elim}
 use Rattle.std.specs.List.{AllByRecursion}
 use Rattle.std.proofs.lemmas.Bool.{cases_Bool, both_ways}
 use Rattle.std.proofs.lemmas.Option.{none-some}
@@ -10,7 +10,7 @@ use Rattle.slot.specs.Laws.{strictly}
 use Rattle.slot.proofs.Picks.{through}
 use Rattle.bucket_calendar.specs.Chains.{Runs, at}
 use Rattle.bucket_calendar.specs.Cuts.{end_of, Stops, Cut, LeadsTo}
-use Rattle.bucket_calendar.proofs.Cuts.{front_all, back_all, both_all}
+use Rattle.bucket_calendar.proofs.Cuts.{back_all, both_all}
 use Rattle.bucket_calendar.proofs.Links.{unmap}
 
 -- the rest of a chain from one of its places

@@ -112,7 +112,7 @@ fn is_near(pool: &[Slot], place: u16, s: &Slot) -> bool
 }
 
 // Where the first slot of each bucket lies, and after each slot the next one of its bucket. A hint is where a slot of about that time was put. It only tells where a walk may begin, and one that does not fit is passed over.
-#[derive(Clone, Copy)]
+#[derive(Drop)]
 pub(crate) struct Chains {
     pub(crate) heads: [Option<u16>; BUCKETS],
     pub(crate) next: [Option<u16>; CAPACITY],
@@ -183,12 +183,14 @@ impl Chains {
         self.heads[bucket(s)]
     }
 
-    // The slot at `place` joins the chain of its bucket. The slots before it are linked.
+    // The slot at `place` joins the chain of its bucket. The slots before it are linked, and no other bucket is touched.
     pub(crate) fn link(&mut self, pool: &[Slot], place: u16)
         requires linked { Linked self.old.heads self.old.next (take place pool.now) }
         requires within { place < length pool.now }
         requires few { length pool.now ≤ 512 }
-        ensures { Linked self.new.heads self.new.next (take (place + 1) pool.now) }
+        ensures linked { Linked self.new.heads self.new.next (take (place + 1) pool.now) }
+        ensures others { (b : ℕ) → (b ≢ bucket_of (at pool.now place)) → slice_index_or self.new.heads b None ≡ slice_index_or self.old.heads b None }
+        ensures kept { (q : ℕ) → q < place → (bucket_of (at pool.now q) ≢ bucket_of (at pool.now place)) → slice_index_or self.new.next q None ≡ slice_index_or self.old.next q None }
     {
         let s = &pool[place as usize];
         let b = bucket(s);

@@ -42,7 +42,7 @@ invariant_of-self c =
     let e = c.push_reserved.ensures in
     let zs = xs ++ x ∷ [] in
     let n : length zs ≤ c.len-place.result + 1 = omega (arith, c.len-place.ensures, s.pool.ok.0, length-append xs (x ∷ [])) in
-    let d : Linked c.link.new.self.heads c.link.new.self.next zs = linked_all _ _ (c.len-place.result + 1) zs n (subst (λ l. Linked c.link.new.self.heads c.link.new.self.next (take (c.len-place.result + 1) l)) (c.deref.ensures.value ∙ e.items) c.link.ensures) in
+    let d : Linked c.link.new.self.heads c.link.new.self.next zs = linked_all _ _ (c.len-place.result + 1) zs n (subst (λ l. Linked c.link.new.self.heads c.link.new.self.next (take (c.len-place.result + 1) l)) (c.deref.ensures.value ∙ e.items) c.link.ensures.linked) in
     let k : c.sooner-self-inside.result ≡ first (ranked earlier zs) = c.sooner-self-inside.ensures xs c.self.invariant.1.known ∙ ap first (sym (ranked_push earlier strictly xs x)) in (
       omega (arith, e.capacity, c.self.invariant.0),
       rw e.items (sound_push s.first c.sooner-self-inside.result s.chains.heads s.chains.next c.link.new.self.heads c.link.new.self.next xs x c.self.invariant.1 d k),

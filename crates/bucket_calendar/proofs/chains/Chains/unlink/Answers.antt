@@ -1,5 +1,5 @@
 -- The first leaves, and the last slot is led to at its place.
-use Rattle.std.proofs.Common.{get_or, None, refl, arith, rules, ◌≡◌, Some, length, set, ◌-◌}
+use Rattle.std.proofs.Common.{refl, arith, rules, ◌≡◌, Some, length, ◌-◌}
 use Rattle.bucket_calendar.proofs.Unlinks.{place_in, loosened, moving, row_rises, leader_in, unmoved, led_to, led_first}
 use Rattle.bucket_calendar.proofs.chains.Chains.unlink.Goals as goal
 
