@@ -16,10 +16,10 @@ use Rattle.slot.proofs.Puts.{first_least, at_one}
 abbrev pub blank : Slot
 blank = record { held = record { message = record { time = 0; receiver = 0; sender = 0; number = 0; kind = 0; «data» = 0 }; group = record { mask = 0 } }; age = 0 }
 
-not_over : (x y z : Slot) → earlier z y ≡ false → earlier y x ≡ false → earlier z x ≡ false
+pub not_over : (x y z : Slot) → earlier z y ≡ false → earlier y x ≡ false → earlier z x ≡ false
 not_over x y z a b = ⊎_elim (λ (e : earlier z x ≡ true). absurd (both_ways (earlier z y) a (through earlier strictly z x y e b))) (λ e. e) (cases_Bool (earlier z x))
 
-parent : (xs : List Slot) → IsHeap turned xs → (k : ℕ) → 0 < k → k < length xs → earlier (get_or xs k blank) (get_or xs ((k - 1) / 2) blank) ≡ false
+pub parent : (xs : List Slot) → IsHeap turned xs → (k : ℕ) → 0 < k → k < length xs → earlier (get_or xs k blank) (get_or xs ((k - 1) / 2) blank) ≡ false
 unfolding IsHeap
 parent xs h k a b = sym (is_earlier (get_or xs k blank) (get_or xs ((k - 1) / 2) blank)) ∙ h ((k - 1) / 2) k blank (omega arith) (omega arith) (omega arith) b
 
@@ -35,7 +35,7 @@ root_first x t h = ins_front earlier strictly x (ranked earlier t) (all_ranked e
     (All-from_get_or (λ y. earlier y x ≡ false) t blank (λ i l. under_root (x ∷ t) h (suc i) (suc i) (omega arith) (let m : suc i < suc (length t) = omega arith in m))))
 
 -- m is no later than the children of the root
-under_child : (xs : List Slot) → IsHeap turned xs → (m : Slot) → earlier (get_or xs 1 blank) m ≡ false → (2 < length xs → earlier (get_or xs 2 blank) m ≡ false)
+pub under_child : (xs : List Slot) → IsHeap turned xs → (m : Slot) → earlier (get_or xs 1 blank) m ≡ false → (2 < length xs → earlier (get_or xs 2 blank) m ≡ false)
     → (n k : ℕ) → k ≤ n → 0 < k → k < length xs → earlier (get_or xs k blank) m ≡ false
 under_child xs h m a b n zero l p q = absurd (let z : ⊥ = omega arith in z)
 under_child xs h m a b n (suc zero) l p q = a

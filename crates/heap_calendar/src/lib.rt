@@ -3,4 +3,6 @@
 
 pub mod calendar_impl;
 mod queue;
+mod root;
+mod sift;
 pub mod store;

@@ -1,35 +1,35 @@
 // Held messages in a binary heap of slots, by key and then older put first.
-ghost use Rattle.std.specs.Prelude.{◌≡◌, ◌+◌, ◌<◌, ◌≤◌, [], length, Option, vec_capacity, IfOk};
-ghost use Rattle.std.specs.BinaryHeap.{heap_capacity, heap_items, heap_len, IsHeap};
+ghost use Rattle.std.specs.Prelude.{◌≡◌, ◌+◌, ◌<◌, ◌≤◌, true, [], length, Option, vec_capacity, vec_items, vec_len, IfOk};
 ghost use Rattle.std.specs.Coded.{codes};
 ghost use Rattle.std.specs.List.{filter_map, slice_get};
 ghost use Rattle.event.specs.Lists.{insert, first, rest, Sorted};
 ghost use Rattle.calendar.specs.declared.Held.{Held};
 ghost use Rattle.calendar.specs.Calls.{key_of_held, leading, waiting};
-ghost use Rattle.slot.specs.Rank.{ranked};
-ghost use Rattle.slot.specs.Slots.{earlier, turned, in_order};
+ghost use Rattle.slot.specs.Slots.{in_order};
 ghost use Rattle.slot.proofs.Holds.{in_order_sorted};
 ghost use Rattle.heap_calendar.specs.Changes.{KeepsKeys};
 ghost use Rattle.slot.specs.Passes.{Gives};
 ghost use Rattle.heap_calendar.specs.Line.{Line, fits_in_order};
 ghost use Rattle.slot.specs.Props.{sorted_prop};
-ghost use Rattle.heap_calendar.specs.Totals.{Sound};
+ghost use Rattle.heap_calendar.specs.Totals.{Sound, standing};
 
+use crate::root::{first, live, put_in, second, settle};
 use crate::store::CAPACITY;
 use calendar::Held;
 use slot::Slot;
-use slot::order::comes_before;
 use slot::pick::nth;
 use std::alloc::{AllocError, Global};
-use std::collections::BinaryHeap;
 use std::marker::Model;
 
 // `next` is the age of the next put. There is room for 512, so no call allocates after `new`.
+// A taken root stays until the next put, which goes in for it: so a take and a put move slots once.
 #[derive(Drop)]
 pub(crate) struct Queue {
-    heap: BinaryHeap<Slot>,
+    heap: Vec<Slot>,
+    taken: bool,
     next: u32,
-    ghost short: { heap_len heap ≤ 512 },
+    ghost short: { vec_len heap ≤ 512 },
+    ghost rooted: { taken ≡ true → 0 < vec_len heap },
 }
 
 // Callers see what is held, in order, and the age of the next put.
@@ -38,9 +38,9 @@ impl Model for Queue {
 
     ghost coded = { Prim.hlevel (codes, sorted_prop) };
 
-    ghost view = { λ q. record { held = in_order (heap_items q.heap); next = q.next; fits = fits_in_order q.heap q.short; sorted = in_order_sorted (heap_items q.heap) } };
+    ghost view = { λ q. record { held = in_order (standing q.taken (vec_items q.heap)); next = q.next; fits = fits_in_order q.taken q.heap q.short; sorted = in_order_sorted (standing q.taken (vec_items q.heap)) } };
 
-    ghost invariant = { λ q. (512 ≤ heap_capacity q.heap) × Sound q.next (heap_items q.heap) };
+    ghost invariant = { λ q. (512 ≤ vec_capacity q.heap) × Sound q.next q.taken (vec_items q.heap) };
 }
 
 impl Queue {
@@ -49,7 +49,8 @@ impl Queue {
         ensures next { IfOk result (λ q. q.next ≡ 0) }
     {
         Ok(Queue {
-            heap: BinaryHeap::with_capacity(memory, CAPACITY)?,
+            heap: Vec::with_capacity(memory, CAPACITY)?,
+            taken: false,
             next: 0,
         })
     }
@@ -57,7 +58,7 @@ impl Queue {
     pub(crate) fn len(&self) -> usize
         ensures { result ≡ length self.now.held }
     {
-        self.heap.len()
+        self.heap.len() - usize::from(self.taken)
     }
 
     // Goes behind those with its key.
@@ -71,7 +72,8 @@ impl Queue {
             held: h,
             age: self.next,
         };
-        self.heap.push(slot).unwrap();
+        put_in(&mut self.heap, self.taken, slot);
+        self.taken = false;
         self.next += 1;
     }
 
@@ -81,7 +83,10 @@ impl Queue {
         ensures held { self.new.held ≡ rest self.old.held }
         ensures next { self.new.next ≡ self.old.next }
     {
-        self.heap.pop().map(|s| s.held)
+        settle(&mut self.heap, self.taken);
+        let told = self.heap.first().map(|s| s.held);
+        self.taken = told.is_some();
+        told
     }
 
     pub(crate) fn clear(&mut self)
@@ -89,6 +94,7 @@ impl Queue {
         ensures next { self.new.next ≡ 0 }
     {
         self.heap.clear();
+        self.taken = false;
         self.next = 0;
     }
 
@@ -97,13 +103,13 @@ impl Queue {
         ensures { result ≡ slice_get (leading self.now.held) i }
     {
         let all = self.heap.as_slice();
-        let first = all.first()?;
+        let first = first(all, self.taken)?;
         let key = first.held.key();
         let alike = |s: &Slot| key == s.held.key();
         match i {
             0 => Some(first.held),
-            1 => second(all).filter(alike).map(|s| s.held),
-            _ => nth(all, alike, i).map(|s| s.held),
+            1 => second(all, self.taken).filter(|s| alike(s)).map(|s| s.held),
+            _ => nth(live(all, self.taken), alike, i).map(|s| s.held),
         }
     }
 
@@ -111,7 +117,12 @@ impl Queue {
     pub(crate) fn peek(&self, v: u8, i: usize) -> Option<Held>
         ensures { result ≡ slice_get (waiting v self.now.held) i }
     {
-        nth(self.heap.as_slice(), |s| s.held.group.has(v), i).map(|s| s.held)
+        nth(
+            live(self.heap.as_slice(), self.taken),
+            |s| s.held.group.has(v),
+            i,
+        )
+        .map(|s| s.held)
     }
 
     // Makes of each what f gives, in order, and drops those of which it gives none. The ages begin anew; `spare` holds all meanwhile.
@@ -156,21 +167,5 @@ impl Queue {
                 self.push(changed);
             }
         }
-    }
-}
-
-// The second in order: the earlier child of the root.
-fn second(all: &[Slot]) -> Option<Slot>
-    requires { IsHeap turned all.now }
-    ensures { result ≡ slice_get (ranked earlier all.now) 1 }
-{
-    match all {
-        [_, left, right, ..] => Some(if comes_before(right, left) {
-            *right
-        } else {
-            *left
-        }),
-        [_, left] => Some(*left),
-        _ => None,
     }
 }
