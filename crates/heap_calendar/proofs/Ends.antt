@@ -14,7 +14,7 @@ use Rattle.heap_calendar.specs.Sifts.{Mends, Lifts}
 use Rattle.heap_calendar.proofs.Sifts.{turned_total}
 
 -- what is written through a slice is the whole
-pub whole : (n : ℕ) (xs ys : List Slot) → n ≡ length xs → length ys ≡ length xs → take n (ys ++ drop (length ys) xs) ≡ ys
+pub whole : {X : Type 0} (n : ℕ) (xs ys : List X) → n ≡ length xs → length ys ≡ length xs → take n (ys ++ drop (length ys) xs) ≡ ys
 whole n xs ys e f = ap (λ m. take m (ys ++ drop (length ys) xs)) (e ∙ sym f) ∙ take-append_seam ys (drop (length ys) xs)
 
 pub root_set : (xs : List Slot) (x : Slot) → 0 < length xs → set xs 0 x ≡ x ∷ rest xs
@@ -35,24 +35,24 @@ front u z h = λ p k d lo a b f.
     (λ i. lt_by_cmp turned (sym (get_or-append u (z ∷ []) d p (omega arith)) i) (sym (get_or-append u (z ∷ []) d k f) i))
     ∙ h p k d lo a b (omega (arith, length-append u (z ∷ [])))
 
-at_seam : (u : List Slot) (x : Slot) → set (u ++ x ∷ []) (length u) x ≡ u ++ x ∷ []
+at_seam : {X : Type 0} (u : List X) (x : X) → set (u ++ x ∷ []) (length u) x ≡ u ++ x ∷ []
 at_seam [] x = refl
 at_seam (y ∷ u) x = ap (λ l. y ∷ l) (at_seam u x)
 
-pub last_set : (u : List Slot) (x : Slot) (n : ℕ) → n ≡ length u → set (u ++ x ∷ []) n x ≡ u ++ x ∷ []
+pub last_set : {X : Type 0} (u : List X) (x : X) (n : ℕ) → n ≡ length u → set (u ++ x ∷ []) n x ≡ u ++ x ∷ []
 last_set u x n e = ap (λ m. set (u ++ x ∷ []) m x) e ∙ at_seam u x
 
 pub risen : (xs ys : List Slot) (x : Slot) (n : ℕ) → n ≡ length xs → length ys ≡ n + 1 → Lifts (xs ++ x ∷ []) n ys → KeepsHeap turned xs ys
 risen xs ys x n e f l = sifts.pushed turned turned_total xs (x ∷ []) (xs ++ x ∷ []) ys n e refl f l
 
 -- the last goes to the front
-pub last_first : (u : List Slot) (z : Slot) → IsPermutation (u ++ z ∷ []) (z ∷ u)
+pub last_first : {X : Type 0} (u : List X) (z : X) → IsPermutation (u ++ z ∷ []) (z ∷ u)
 last_first u z = IsPermutation-append_comm u (z ∷ [])
 
-pub first_last : (u : List Slot) (z : Slot) → IsPermutation (z ∷ u) (u ++ z ∷ [])
+pub first_last : {X : Type 0} (u : List X) (z : X) → IsPermutation (z ∷ u) (u ++ z ∷ [])
 first_last u z = IsPermutation-append_comm (z ∷ []) u
 
 -- the last goes in for the root
-pub dropped : (xs u ys : List Slot) (z : Slot) → xs ≡ u ++ z ∷ [] → 0 < length u → IsPermutation (set u 0 z) ys → IsPermutation (rest xs) ys
+pub dropped : {X : Type 0} (xs u ys : List X) (z : X) → xs ≡ u ++ z ∷ [] → 0 < length u → IsPermutation (set u 0 z) ys → IsPermutation (rest xs) ys
 dropped xs [] ys z e h p = absurd (let q : ⊥ = omega arith in q)
 dropped xs (x ∷ u) ys z e h p = subst (λ l. IsPermutation (rest l) ys) (sym e) (IsPermutation-trans (u ++ z ∷ []) (z ∷ u) ys (last_first u z) p)

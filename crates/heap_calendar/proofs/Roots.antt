@@ -8,13 +8,11 @@ use Rattle.std.proofs.ByRecursion.{All-from_get_or}
 use Rattle.slot.specs.Rank.{ranked}
 use Rattle.slot.proofs.Ranks.{ins_front, all_ranked}
 use Rattle.slot.specs.declared.Slot.{Slot}
+use Rattle.heap_calendar.specs.Entries.{blank}
 use Rattle.slot.specs.Slots.{earlier, turned}
 use Rattle.slot.specs.Laws.{strictly, is_earlier}
 use Rattle.slot.proofs.Picks.{never_self, through}
 use Rattle.slot.proofs.Puts.{first_least, at_one}
-
-abbrev pub blank : Slot
-blank = record { held = record { message = record { time = 0; receiver = 0; sender = 0; number = 0; kind = 0; «data» = 0 }; group = record { mask = 0 } }; age = 0 }
 
 pub not_over : (x y z : Slot) → earlier z y ≡ false → earlier y x ≡ false → earlier z x ≡ false
 not_over x y z a b = ⊎_elim (λ (e : earlier z x ≡ true). absurd (both_ways (earlier z y) a (through earlier strictly z x y e b))) (λ e. e) (cases_Bool (earlier z x))

@@ -1,7 +1,6 @@
 -- A slot on its way in a heap leaves a hole, which is read as if the slot were there.
 use Rattle.std.proofs.Common.{◌≡◌, ℕ, ◌+◌, ◌-◌, ◌*◌, ◌/◌, ◌<◌, ◌≤◌, Bool, true, false, ◌⊎◌, List, length, get_or, set, inl, inr, sym, ap, ◌∙◌, subst, arith}
 use Rattle.std.specs.List.{swap}
-use Rattle.std.specs.List.Sorted.{IsPermutation}
 use Rattle.std.specs.Cmp.{IsTotalOrder, back_total}
 use Rattle.std.specs.BinaryHeap.Sift.{IsGreaterChild, ComparesAt}
 use Rattle.std_alloc.proofs.HeapSift as sifts
@@ -9,13 +8,12 @@ use Rattle.std_alloc.proofs.vec.Slotted.{hole_moves}
 use Rattle.std_alloc.proofs.Permutation.{as_swapped}
 use Rattle.std.proofs.lemmas.List.{get_or_default as any-default}
 use Rattle.std.proofs.lemmas.List.{get_or-set_same, get_or-set_other, length-set}
-use Rattle.std.proofs.lemmas.List.Sorted.{IsPermutation-swap}
 use Rattle.slot.specs.declared.Slot.{Slot}
 use Rattle.slot.specs.Slots.{earlier, turned}
 use Rattle.slot.specs.Laws.{strictly, is_earlier, slot_total}
 use Rattle.slot.proofs.Picks.{never_self}
 use Rattle.heap_calendar.specs.Sifts.{IsEarlierChild}
-use Rattle.heap_calendar.proofs.Roots.{blank}
+use Rattle.heap_calendar.specs.Entries.{blank}
 
 -- beside the hole the array is read
 beside : (all : List Slot) (at k : ℕ) (x d : Slot) → k < length all → (k ≡ at → ⊥) → get_or (set all at x) k d ≡ get_or all k blank
@@ -36,10 +34,6 @@ inside all at x d h = get_or-set_same all at x d h
 -- a slot goes into the hole, and leaves one
 pub moved : (all : List Slot) (at to : ℕ) (x : Slot) → at < length all → to < length all → (to ≡ at → ⊥) → set (set all at (get_or all to blank)) to x ≡ swap (set all at x) at to
 moved all at to x p q n = hole_moves all _ at to x p q n (ap (set all at) (any-default all to blank x q))
-
-pub shuffles : (all : List Slot) (at to : ℕ) (x : Slot) → at < length all → to < length all → (to ≡ at → ⊥) → IsPermutation (set all at x) (set (set all at (get_or all to blank)) to x)
-shuffles all at to x p q n =
-    IsPermutation-swap (set all at x) _ at to (omega (arith, length-set all at x)) (omega (arith, length-set all at x)) (moved all at to x p q n)
 
 -- x, seen in the hole, against the slot at p
 pub compared : (all : List Slot) (at p : ℕ) (x : Slot) (b : Bool) → p < length all → at < length all → (p ≡ at → ⊥) → earlier x (get_or all p blank) ≡ b → ComparesAt turned (set all at x) p at b

@@ -12,7 +12,8 @@ use Rattle.slot.specs.Slots.{earlier, turned}
 use Rattle.slot.specs.Laws.{strictly}
 use Rattle.slot.proofs.Picks.{at_zero}
 use Rattle.slot.proofs.Puts.{first_least}
-use Rattle.heap_calendar.proofs.Roots.{blank, not_over, parent, root_first, under_child}
+use Rattle.heap_calendar.specs.Entries.{blank}
+use Rattle.heap_calendar.proofs.Roots.{not_over, parent, root_first, under_child}
 
 pub root_at : (xs : List Slot) → IsHeap turned xs → slice_get xs 0 ≡ slice_get (ranked earlier xs) 0
 root_at [] h = refl

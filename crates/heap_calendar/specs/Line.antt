@@ -8,6 +8,9 @@ use Rattle.calendar.specs.Calls.{key_of_held}
 use Rattle.slot.specs.declared.Slot.{Slot}
 use Rattle.slot.specs.Slots.{in_order}
 use Rattle.slot.proofs.Holds.{length_in_order}
+use Rattle.std.proofs.lemmas.List.{length-map}
+use Rattle.heap_calendar.specs.declared.entry.Entry.{Entry}
+use Rattle.heap_calendar.specs.Entries.{slots, slot_of}
 use Rattle.heap_calendar.specs.Totals.{standing}
 
 -- the messages in order, at most 512, and the age of the next put
@@ -17,11 +20,13 @@ pub record Line : Type 0 where
   pub fits : length held ≤ 512
   pub sorted : Sorted key_of_held held
 
-pub no_more : (taken : Bool) (xs : List Slot) → length (standing taken xs) ≤ length xs
+pub no_more : {X : Type 0} (taken : Bool) (xs : List X) → length (standing taken xs) ≤ length xs
 no_more true [] = omega arith
 no_more true (x ∷ xs) = omega arith
 no_more false xs = omega arith
 
 -- no more stand than there are
-pub fits_in_order : (taken : Bool) (v : Vec Slot) → vec_len v ≤ 512 → length (in_order (standing taken (vec_items v))) ≤ 512
-fits_in_order taken v k = omega (arith, length_in_order (standing taken (vec_items v)), no_more taken (vec_items v), v.ok.0)
+pub fits_in_order : (taken : Bool) (pool : List Slot) (v : Vec Entry) → vec_len v ≤ 512 → length (in_order (standing taken (slots pool (vec_items v)))) ≤ 512
+fits_in_order taken pool v k =
+    let xs = slots pool (vec_items v) in
+    omega (arith, length_in_order (standing taken xs), no_more taken xs, length-map (vec_items v) (slot_of pool), v.ok.0)

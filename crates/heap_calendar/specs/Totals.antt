@@ -7,7 +7,7 @@ use Rattle.slot.specs.declared.Slot.{Slot}
 use Rattle.slot.specs.Slots.{earlier, turned, steady, Young}
 
 -- all but a root that was taken
-abbrev pub standing : Bool → List Slot → List Slot
+abbrev pub standing : {X : Type 0} → Bool → List X → List X
 standing true xs = rest xs
 standing false xs = xs
 

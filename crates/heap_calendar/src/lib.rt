@@ -2,6 +2,8 @@
 #![tactic(auto)]
 
 pub mod calendar_impl;
+mod entry;
+mod pick;
 mod queue;
 mod root;
 mod sift;

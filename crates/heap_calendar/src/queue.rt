@@ -1,5 +1,5 @@
 // Held messages in a binary heap of slots, by key and then older put first.
-ghost use Rattle.std.specs.Prelude.{◌≡◌, ◌+◌, ◌<◌, ◌≤◌, true, [], length, Option, vec_capacity, vec_items, vec_len, IfOk};
+ghost use Rattle.std.specs.Prelude.{◌≡◌, ◌+◌, ◌<◌, ◌≤◌, true, [], List, length, Option, vec_capacity, vec_items, vec_len, IfOk};
 ghost use Rattle.std.specs.Coded.{codes};
 ghost use Rattle.std.specs.List.{filter_map, slice_get};
 ghost use Rattle.event.specs.Lists.{insert, first, rest, Sorted};
@@ -12,24 +12,31 @@ ghost use Rattle.slot.specs.Passes.{Gives};
 ghost use Rattle.heap_calendar.specs.Line.{Line, fits_in_order};
 ghost use Rattle.slot.specs.Props.{sorted_prop};
 ghost use Rattle.heap_calendar.specs.Totals.{Sound, standing};
+ghost use Rattle.heap_calendar.specs.Entries.{Kept, slots};
+ghost use Rattle.slot.specs.declared.Slot.{Slot};
 
-use crate::root::{first, live, put_in, second, settle};
+use crate::entry::Entry;
+use crate::pick::nth;
+use crate::root::{first, live, put_in, root, second, settle};
 use crate::store::CAPACITY;
 use calendar::Held;
+use event::Message;
+use group::Group;
 use slot::Slot;
-use slot::pick::nth;
 use std::alloc::{AllocError, Global};
 use std::marker::Model;
 
-// `next` is the age of the next put. There is room for 512, so no call allocates after `new`.
-// A taken root stays until the next put, which goes in for it: so a take and a put move slots once.
+// The slots stay where they were put, and the entries in `order` are a heap. `next` is the age of the next put.
+// A taken root stays until the next put, which goes in for it. There is room for 512, so no call allocates after `new`.
 #[derive(Drop)]
 pub(crate) struct Queue {
-    heap: Vec<Slot>,
+    pool: Vec<Slot>,
+    order: Vec<Entry>,
+    free: Vec<u16>,
     taken: bool,
     next: u32,
-    ghost short: { vec_len heap ≤ 512 },
-    ghost rooted: { taken ≡ true → 0 < vec_len heap },
+    ghost short: { vec_len order ≤ 512 },
+    ghost rooted: { taken ≡ true → 0 < vec_len order },
 }
 
 // Callers see what is held, in order, and the age of the next put.
@@ -38,9 +45,9 @@ impl Model for Queue {
 
     ghost coded = { Prim.hlevel (codes, sorted_prop) };
 
-    ghost view = { λ q. record { held = in_order (standing q.taken (vec_items q.heap)); next = q.next; fits = fits_in_order q.taken q.heap q.short; sorted = in_order_sorted (standing q.taken (vec_items q.heap)) } };
+    ghost view = { λ q. record { held = in_order (standing q.taken (slots q.pool.items q.order.items)); next = q.next; fits = fits_in_order q.taken q.pool.items q.order q.short; sorted = in_order_sorted (standing q.taken (slots q.pool.items q.order.items)) } };
 
-    ghost invariant = { λ q. (512 ≤ vec_capacity q.heap) × Sound q.next q.taken (vec_items q.heap) };
+    ghost invariant = { λ q. (512 ≤ vec_capacity q.order) × (512 ≤ vec_capacity q.free) × Sound q.next q.taken (slots q.pool.items q.order.items) × Kept q.pool.items q.order.items q.free.items };
 }
 
 impl Queue {
@@ -48,8 +55,15 @@ impl Queue {
         ensures held { IfOk result (λ q. q.held ≡ []) }
         ensures next { IfOk result (λ q. q.next ≡ 0) }
     {
+        let mut pool = Vec::with_capacity(memory, CAPACITY)?;
+        pool.resize(CAPACITY, blank())?;
+        let order = Vec::with_capacity(memory, CAPACITY)?;
+        let mut free = Vec::with_capacity(memory, CAPACITY)?;
+        free_all(&mut free);
         Ok(Queue {
-            heap: Vec::with_capacity(memory, CAPACITY)?,
+            pool,
+            order,
+            free,
             taken: false,
             next: 0,
         })
@@ -58,7 +72,7 @@ impl Queue {
     pub(crate) fn len(&self) -> usize
         ensures { result ≡ length self.now.held }
     {
-        self.heap.len() - usize::from(self.taken)
+        self.order.len() - usize::from(self.taken)
     }
 
     // Goes behind those with its key.
@@ -72,7 +86,13 @@ impl Queue {
             held: h,
             age: self.next,
         };
-        put_in(&mut self.heap, self.taken, slot);
+        put_in(
+            &mut self.pool,
+            &mut self.order,
+            &mut self.free,
+            self.taken,
+            &slot,
+        );
         self.taken = false;
         self.next += 1;
     }
@@ -83,8 +103,8 @@ impl Queue {
         ensures held { self.new.held ≡ rest self.old.held }
         ensures next { self.new.next ≡ self.old.next }
     {
-        settle(&mut self.heap, self.taken);
-        let told = self.heap.first().map(|s| s.held);
+        settle(&self.pool, &mut self.order, &mut self.free, self.taken);
+        let told = root(&self.pool, &self.order).map(|s| s.held);
         self.taken = told.is_some();
         told
     }
@@ -93,7 +113,8 @@ impl Queue {
         ensures held { self.new.held ≡ [] }
         ensures next { self.new.next ≡ 0 }
     {
-        self.heap.clear();
+        self.order.clear();
+        free_all(&mut self.free);
         self.taken = false;
         self.next = 0;
     }
@@ -102,14 +123,17 @@ impl Queue {
     pub(crate) fn look(&self, i: usize) -> Option<Held>
         ensures { result ≡ slice_get (leading self.now.held) i }
     {
-        let all = self.heap.as_slice();
-        let first = first(all, self.taken)?;
+        let pool = self.pool.as_slice();
+        let all = self.order.as_slice();
+        let first = first(pool, all, self.taken)?;
         let key = first.held.key();
         let alike = |s: &Slot| key == s.held.key();
         match i {
             0 => Some(first.held),
-            1 => second(all, self.taken).filter(|s| alike(s)).map(|s| s.held),
-            _ => nth(live(all, self.taken), alike, i).map(|s| s.held),
+            1 => second(pool, all, self.taken)
+                .filter(|s| alike(s))
+                .map(|s| s.held),
+            _ => nth(pool, live(all, self.taken), alike, i).map(|s| s.held),
         }
     }
 
@@ -117,12 +141,8 @@ impl Queue {
     pub(crate) fn peek(&self, v: u8, i: usize) -> Option<Held>
         ensures { result ≡ slice_get (waiting v self.now.held) i }
     {
-        nth(
-            live(self.heap.as_slice(), self.taken),
-            |s| s.held.group.has(v),
-            i,
-        )
-        .map(|s| s.held)
+        let all = live(self.order.as_slice(), self.taken);
+        nth(self.pool.as_slice(), all, |s| s.held.group.has(v), i).map(|s| s.held)
     }
 
     // Makes of each what f gives, in order, and drops those of which it gives none. The ages begin anew; `spare` holds all meanwhile.
@@ -167,5 +187,35 @@ impl Queue {
                 self.push(changed);
             }
         }
+    }
+}
+
+// What stands in the pool before anything is put.
+fn blank() -> Slot {
+    Slot {
+        held: Held {
+            message: Message {
+                time: 0,
+                receiver: 0,
+                sender: 0,
+                number: 0,
+                kind: 0,
+                data: 0,
+            },
+            group: Group::empty(),
+        },
+        age: 0,
+    }
+}
+
+// Every slot is free.
+fn free_all(free: &mut Vec<u16>)
+    requires room { 512 ≤ vec_capacity free.old }
+    ensures kept { (pool : List Slot) → length pool ≡ 512 → Kept pool [] free.new.items }
+    ensures capacity { vec_capacity free.new ≡ vec_capacity free.old }
+{
+    free.clear();
+    for at in 0..CAPACITY as u16 {
+        free.push_reserved(at);
     }
 }

@@ -1,20 +1,22 @@
-// A heap whose root may have been taken: how slots go in and out, and which come first.
-ghost use Rattle.std.specs.Prelude.{◌≡◌, ◌+◌, ◌<◌, Bool, true, false, ◌∷◌, length, vec_capacity, vec_items, vec_len};
-ghost use Rattle.std.specs.List.{slice_get};
+// A heap of entries whose root may have been taken: how slots go in and out, and which come first.
+ghost use Rattle.std.specs.Prelude.{◌≡◌, ℕ, ◌+◌, ◌<◌, ◌≤◌, Bool, true, false, ◌∷◌, length, vec_capacity, vec_items, vec_len};
+ghost use Rattle.std.specs.List.{AllByRecursion, slice_get};
 ghost use Rattle.std.specs.Option.{option_copied};
 ghost use Rattle.std.specs.List.Sorted.{IsPermutation};
 ghost use Rattle.std.specs.BinaryHeap.{IsHeap, KeepsHeap};
 ghost use Rattle.event.specs.Lists.{rest};
 ghost use Rattle.slot.specs.Rank.{ranked};
 ghost use Rattle.slot.specs.Slots.{earlier, turned};
+ghost use Rattle.heap_calendar.specs.Entries.{Fits, Kept, slots, named, same_number};
 ghost use Rattle.heap_calendar.specs.Totals.{standing};
 
+use crate::entry::Entry;
 use crate::sift::{earlier_child, replace_root, rise};
 use slot::Slot;
 use slot::order::comes_before;
 
 // All but a root that was taken.
-pub(crate) fn live(all: &[Slot], taken: bool) -> &[Slot]
+pub(crate) fn live(all: &[Entry], taken: bool) -> &[Entry]
     ensures { result.now ≡ standing taken all.now }
 {
     match all {
@@ -24,91 +26,164 @@ pub(crate) fn live(all: &[Slot], taken: bool) -> &[Slot]
 }
 
 // Puts a slot in: for the root, if that was taken.
-pub(crate) fn put_in(heap: &mut Vec<Slot>, taken: bool, slot: Slot)
-    requires rooted { taken ≡ true → 0 < vec_len heap.old }
-    requires room { taken ≡ false → vec_len heap.old < vec_capacity heap.old }
-    ensures shuffled { IsPermutation (slot ∷ standing taken heap.old.items) heap.new.items }
-    ensures built { KeepsHeap turned heap.old.items heap.new.items }
-    ensures capacity { vec_capacity heap.new ≡ vec_capacity heap.old }
+pub(crate) fn put_in(
+    pool: &mut Vec<Slot>,
+    order: &mut Vec<Entry>,
+    free: &mut Vec<u16>,
+    taken: bool,
+    slot: &Slot,
+)
+    requires rooted { taken ≡ true → 0 < vec_len order.old }
+    requires room { taken ≡ false → vec_len order.old < 512 }
+    requires reserved { 512 ≤ vec_capacity order.old }
+    requires kept { Kept pool.old.items order.old.items free.old.items }
+    ensures shuffled { IsPermutation (slot.now ∷ standing taken (slots pool.old.items order.old.items)) (slots pool.new.items order.new.items) }
+    ensures built { KeepsHeap turned (slots pool.old.items order.old.items) (slots pool.new.items order.new.items) }
+    ensures kept { Kept pool.new.items order.new.items free.new.items }
+    ensures order_room { vec_capacity order.new ≡ vec_capacity order.old }
+    ensures free_room { vec_capacity free.new ≡ vec_capacity free.old }
 {
     if taken {
-        replace_root(heap, &slot);
-    } else {
-        let end = heap.len();
-        heap.push_reserved(slot);
-        rise(heap, end, &slot);
+        put_for_root(pool, order, slot);
+    } else if let Some(at) = free.pop() {
+        put_at_end(pool, order, at, slot);
     }
+}
+
+// The slot goes where that of the root was.
+fn put_for_root(pool: &mut Vec<Slot>, order: &mut [Entry], slot: &Slot)
+    requires some { 0 < length order.old }
+    requires fit { AllByRecursion (Fits pool.old.items) order.old }
+    requires once { (k : ℕ) → named k order.old ≤ 1 }
+    ensures shuffled { IsPermutation (slot.now ∷ rest (slots pool.old.items order.old)) (slots pool.new.items order.new) }
+    ensures built { KeepsHeap turned (slots pool.old.items order.old) (slots pool.new.items order.new) }
+    ensures fit { AllByRecursion (Fits pool.new.items) order.new }
+    ensures named { (k : ℕ) → named k order.new ≡ named k order.old }
+    ensures wide { vec_len pool.new ≡ vec_len pool.old }
+{
+    let at = order[0].at;
+    pool[usize::from(at)] = *slot;
+    replace_root(pool, order, Entry::new(slot, at));
+}
+
+// The slot goes to a free place.
+fn put_at_end(pool: &mut Vec<Slot>, order: &mut Vec<Entry>, at: u16, slot: &Slot)
+    requires within { at < vec_len pool.old }
+    requires room { vec_len order.old < vec_capacity order.old }
+    requires fit { AllByRecursion (Fits pool.old.items) order.old.items }
+    requires absent { named at order.old.items ≡ 0 }
+    ensures shuffled { IsPermutation (slot.now ∷ slots pool.old.items order.old.items) (slots pool.new.items order.new.items) }
+    ensures built { KeepsHeap turned (slots pool.old.items order.old.items) (slots pool.new.items order.new.items) }
+    ensures fit { AllByRecursion (Fits pool.new.items) order.new.items }
+    ensures named { (k : ℕ) → named k order.new.items ≡ same_number at k + named k order.old.items }
+    ensures wide { vec_len pool.new ≡ vec_len pool.old }
+    ensures order_room { vec_capacity order.new ≡ vec_capacity order.old }
+{
+    pool[usize::from(at)] = *slot;
+    let entry = Entry::new(slot, at);
+    let end = order.len();
+    order.push_reserved(entry);
+    rise(pool, order, end, entry);
 }
 
 // Lets a taken root go.
-pub(crate) fn settle(heap: &mut Vec<Slot>, taken: bool)
-    ensures shuffled { IsPermutation (standing taken heap.old.items) heap.new.items }
-    ensures built { KeepsHeap turned heap.old.items heap.new.items }
-    ensures capacity { vec_capacity heap.new ≡ vec_capacity heap.old }
+pub(crate) fn settle(pool: &[Slot], order: &mut Vec<Entry>, free: &mut Vec<u16>, taken: bool)
+    requires reserved { 512 ≤ vec_capacity free.old }
+    requires kept { Kept pool.now order.old.items free.old.items }
+    ensures shuffled { IsPermutation (standing taken order.old.items) order.new.items }
+    ensures built { KeepsHeap turned (slots pool.now order.old.items) (slots pool.now order.new.items) }
+    ensures kept { Kept pool.now order.new.items free.new.items }
+    ensures order_room { vec_capacity order.new ≡ vec_capacity order.old }
+    ensures free_room { vec_capacity free.new ≡ vec_capacity free.old }
 {
     if taken {
-        drop_root(heap);
+        drop_root(pool, order, free);
     }
 }
 
-// The last slot goes in for the root.
-fn drop_root(heap: &mut Vec<Slot>)
-    ensures shuffled { IsPermutation (rest heap.old.items) heap.new.items }
-    ensures built { KeepsHeap turned heap.old.items heap.new.items }
-    ensures capacity { vec_capacity heap.new ≡ vec_capacity heap.old }
+// The last entry goes in for the root.
+fn drop_root(pool: &[Slot], order: &mut Vec<Entry>, free: &mut Vec<u16>)
+    requires reserved { 512 ≤ vec_capacity free.old }
+    requires kept { Kept pool.now order.old.items free.old.items }
+    ensures shuffled { IsPermutation (rest order.old.items) order.new.items }
+    ensures built { KeepsHeap turned (slots pool.now order.old.items) (slots pool.now order.new.items) }
+    ensures kept { Kept pool.now order.new.items free.new.items }
+    ensures order_room { vec_capacity order.new ≡ vec_capacity order.old }
+    ensures free_room { vec_capacity free.new ≡ vec_capacity free.old }
 {
-    if let Some(last) = heap.pop() {
-        if !heap.is_empty() {
-            replace_root(heap, &last);
+    if let Some(last) = order.pop() {
+        if order.is_empty() {
+            free.push_reserved(last.at);
+        } else {
+            free.push_reserved(order[0].at);
+            replace_root(pool, order, last);
         }
     }
 }
 
 // The first in order.
-pub(crate) fn first(all: &[Slot], taken: bool) -> Option<&Slot>
-    requires { IsHeap turned all.now }
-    ensures { option_copied result ≡ slice_get (ranked earlier (standing taken all.now)) 0 }
-{
-    if taken { below_root(all) } else { all.first() }
-}
-
-// The second in order.
-pub(crate) fn second(all: &[Slot], taken: bool) -> Option<&Slot>
-    requires { IsHeap turned all.now }
-    ensures { option_copied result ≡ slice_get (ranked earlier (standing taken all.now)) 1 }
+pub(crate) fn first<'a>(pool: &'a [Slot], all: &[Entry], taken: bool) -> Option<&'a Slot>
+    requires heap { IsHeap turned (slots pool.now all.now) }
+    requires fit { AllByRecursion (Fits pool.now) all.now }
+    ensures { option_copied result ≡ slice_get (ranked earlier (standing taken (slots pool.now all.now))) 0 }
 {
     if taken {
-        below_child(all)
+        below_root(pool, all)
     } else {
-        below_root(all)
+        root(pool, all)
     }
 }
 
+// The second in order.
+pub(crate) fn second<'a>(pool: &'a [Slot], all: &[Entry], taken: bool) -> Option<&'a Slot>
+    requires heap { IsHeap turned (slots pool.now all.now) }
+    requires fit { AllByRecursion (Fits pool.now) all.now }
+    ensures { option_copied result ≡ slice_get (ranked earlier (standing taken (slots pool.now all.now))) 1 }
+{
+    if taken {
+        below_child(pool, all)
+    } else {
+        below_root(pool, all)
+    }
+}
+
+pub(crate) fn root<'a>(pool: &'a [Slot], all: &[Entry]) -> Option<&'a Slot>
+    requires fit { AllByRecursion (Fits pool.now) all.now }
+    ensures { option_copied result ≡ slice_get (slots pool.now all.now) 0 }
+{
+    if all.is_empty() {
+        return None;
+    }
+    Some(all[0].slot(pool))
+}
+
 // The first but the root: its earlier child.
-fn below_root(all: &[Slot]) -> Option<&Slot>
-    requires { IsHeap turned all.now }
-    ensures { option_copied result ≡ slice_get (ranked earlier all.now) 1 }
+fn below_root<'a>(pool: &'a [Slot], all: &[Entry]) -> Option<&'a Slot>
+    requires heap { IsHeap turned (slots pool.now all.now) }
+    requires fit { AllByRecursion (Fits pool.now) all.now }
+    ensures { option_copied result ≡ slice_get (ranked earlier (slots pool.now all.now)) 1 }
 {
     if all.len() < 2 {
         return None;
     }
-    Some(&all[earlier_child(all, 0)])
+    Some(all[earlier_child(pool, all, 0)].slot(pool))
 }
 
 // The first but the root and its earlier child: the other child, or a child of the earlier one.
-fn below_child(all: &[Slot]) -> Option<&Slot>
-    requires { IsHeap turned all.now }
-    ensures { option_copied result ≡ slice_get (ranked earlier all.now) 2 }
+fn below_child<'a>(pool: &'a [Slot], all: &[Entry]) -> Option<&'a Slot>
+    requires heap { IsHeap turned (slots pool.now all.now) }
+    requires fit { AllByRecursion (Fits pool.now) all.now }
+    ensures { option_copied result ≡ slice_get (ranked earlier (slots pool.now all.now)) 2 }
 {
     if all.len() < 3 {
         return None;
     }
-    let child = earlier_child(all, 0);
-    let other = &all[3 - child];
+    let child = earlier_child(pool, all, 0);
+    let other = all[3 - child].slot(pool);
     if 2 * child + 1 >= all.len() {
         return Some(other);
     }
-    let next = &all[earlier_child(all, child)];
+    let next = all[earlier_child(pool, all, child)].slot(pool);
     if comes_before(next, other) {
         return Some(next);
     }

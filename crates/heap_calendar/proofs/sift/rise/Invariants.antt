@@ -1,8 +1,10 @@
 -- x is seen at `at`, on its way up.
 use Rattle.std.proofs.Common.{◌≤◌, ◌<◌, length, set}
+use Rattle.std.specs.List.{AllByRecursion}
 use Rattle.std.specs.List.Sorted.{IsPermutation}
 use Rattle.std_alloc.proofs.HeapSift as sifts
 use Rattle.slot.specs.Slots.{turned}
+use Rattle.heap_calendar.specs.Entries.{Fits, slots}
 use Rattle.heap_calendar.proofs.Sifts.{turned_total}
 use Rattle.heap_calendar.proofs.sift.rise.Given as goal
 
@@ -10,8 +12,9 @@ abbrev pub invariant-loop-at : goal.invariant-loop-at
 invariant-loop-at l = record {
   within : l.at < length l.all;
   below : l.at ≤ l.start;
+  fit : AllByRecursion (Fits l.pool) (set l.all l.at l.x);
   shuffled : IsPermutation (set l.initial.all l.start l.x) (set l.all l.at l.x);
-  rising : sifts.Rising turned turned_total (set l.initial.all l.start l.x) l.start (set l.all l.at l.x) l.at;
+  rising : sifts.Rising turned turned_total (slots l.pool (set l.initial.all l.start l.x)) l.start (slots l.pool (set l.all l.at l.x)) l.at;
 }
 
 abbrev pub decreases-loop-at : goal.decreases-loop-at

@@ -3,7 +3,7 @@ use Rattle.std.proofs.Common.{length, sym, ap, ◌∙◌, arith}
 use Rattle.event.proofs.Insertion.{length_insert}
 use Rattle.calendar.specs.Calls.{key_of_held}
 use Rattle.heap_calendar.specs.Line.{Line}
-use Rattle.heap_calendar.proofs.Roots.{blank}
+use Rattle.heap_calendar.specs.Entries.{blank}
 use Rattle.heap_calendar.proofs.Backs.{given_more, none_more}
 use Rattle.heap_calendar.proofs.queue.Queue.put_back.Goals as goal
 use Rattle.heap_calendar.proofs.queue.Queue.put_back.Goals.{in-Some, in_default}

@@ -1,0 +1,195 @@
+-- Entries, free slots and the pool, under a put and a drop of the root.
+use Rattle.std.proofs.Common.{◌≡◌, ℕ, ◌+◌, ◌<◌, ◌≤◌, List, [], ◌∷◌, ◌++◌, length, get_or, set, sym, refl, ap, ◌∙◌, ⊎_elim, arith}
+use Rattle.std.specs.List.{AllByRecursion, sum_by}
+use Rattle.std.specs.List.Sorted.{IsPermutation}
+use Rattle.std.proofs.ByRecursion.{all_shuffled, All-append}
+use Rattle.std.proofs.lemmas.Bool.Decides.{nat_tests}
+use Rattle.std.proofs.lemmas.List.{get_or-set_same, get_or-set_other, length-set, length-append}
+use Rattle.std.proofs.lemmas.List.Sorted.{sum_by-IsPermutation}
+use Rattle.std.proofs.lemmas.List.Sums.{sum_by-cons}
+use Rattle.std_alloc.proofs.Permutation.{as_long, which}
+use Rattle.slot.specs.declared.Slot.{Slot}
+use Rattle.heap_calendar.specs.declared.entry.Entry.{Entry}
+use Rattle.heap_calendar.specs.Entries.{blank, slot_of, slots, entry_of, Fits, no_entry, named, listed, same_number, Kept}
+
+one_is : (a k : ℕ) → a ≡ k → same_number a k ≡ 1
+one_is a k e = grind (arith, nat_tests)
+
+none_is : (a k : ℕ) → same_number a k ≡ 0 → a ≡ k → ⊥
+none_is a k h e = let z : same_number a k ≡ 1 = one_is a k e in let y : ⊥ = omega arith in y
+
+module _ (pool : List Slot) (s : Slot) (at : ℕ) where
+  pub fits_new : at < length pool → Fits (set pool at s) (entry_of s at)
+  fits_new h = record { within = omega (arith, length-set pool at s); is = ap (λ x. entry_of x at) (get_or-set_same pool at s blank h) }
+
+  pub same_slot : (e : Entry) → (e.at ≡ at → ⊥) → slot_of (set pool at s) e ≡ slot_of pool e
+  same_slot e n = get_or-set_other pool at e.at s blank n
+
+  pub fits_others : (es : List Entry) → named at es ≡ 0 → AllByRecursion (Fits pool) es → AllByRecursion (Fits (set pool at s)) es
+  fits_others [] h a = tt
+  fits_others (e ∷ es) h a =
+      let u : same_number e.at at + named at es ≡ 0 = h in
+      let n : e.at ≡ at → ⊥ = none_is e.at at (let z : same_number e.at at ≡ 0 = omega arith in z) in
+      let w = a.0.within in (
+        record { within = omega (arith, length-set pool at s); is = ap (λ x. entry_of x e.at) (same_slot e n) ∙ a.0.is },
+        fits_others es (let z : named at es ≡ 0 = omega arith in z) a.1,
+      )
+
+  pub slots_others : (es : List Entry) → named at es ≡ 0 → slots (set pool at s) es ≡ slots pool es
+  slots_others [] h = refl
+  slots_others (e ∷ es) h =
+      let u : same_number e.at at + named at es ≡ 0 = h in
+      let n : e.at ≡ at → ⊥ = none_is e.at at (let z : same_number e.at at ≡ 0 = omega arith in z) in
+      λ i. same_slot e n i ∷ slots_others es (let z : named at es ≡ 0 = omega arith in z) i
+
+-- a slot goes where that of the root was
+pub record RootPut (pool : List Slot) (es : List Entry) (s : Slot) (at : ℕ) : Type 0 where
+  pub within : at < length pool
+  pub fit : AllByRecursion (Fits (set pool at s)) (set es 0 (entry_of s at))
+  pub slots_are : slots (set pool at s) (set es 0 (entry_of s at)) ≡ set (slots pool es) 0 s
+  pub named_are : (k : ℕ) → named k (set es 0 (entry_of s at)) ≡ named k es
+
+pub root_put : (pool : List Slot) (es : List Entry) (s : Slot) → 0 < length es → AllByRecursion (Fits pool) es → ((k : ℕ) → named k es ≤ 1) → RootPut pool es s (get_or es 0 no_entry).at
+root_put pool [] s h f o = absurd (let z : ⊥ = omega arith in z)
+root_put pool (e ∷ es) s h f o =
+    let one : same_number e.at e.at ≡ 1 = one_is e.at e.at refl in
+    let most : same_number e.at e.at + named e.at es ≤ 1 = o e.at in
+    let none : named e.at es ≡ 0 = omega arith in
+    record {
+      within = f.0.within;
+      fit = (fits_new pool s e.at f.0.within, fits_others pool s e.at es none f.1);
+      slots_are = λ i. get_or-set_same pool e.at s blank f.0.within i ∷ slots_others pool s e.at es none i;
+      named_are = λ k. refl;
+    }
+
+-- a slot goes to a free place
+pub end_fits : (pool : List Slot) (es : List Entry) (s : Slot) (at : ℕ) → at < length pool → AllByRecursion (Fits pool) es → named at es ≡ 0 → AllByRecursion (Fits (set pool at s)) (es ++ entry_of s at ∷ [])
+end_fits pool es s at h f n = All-append (Fits (set pool at s)) es (entry_of s at ∷ []) (fits_others pool s at es n f) (fits_new pool s at h, tt)
+
+pub end_slots : (pool : List Slot) (es : List Entry) (s : Slot) (at : ℕ) → at < length pool → named at es ≡ 0 → slots (set pool at s) (es ++ entry_of s at ∷ []) ≡ slots pool es ++ s ∷ []
+end_slots pool [] s at h n = λ i. get_or-set_same pool at s blank h i ∷ []
+end_slots pool (e ∷ es) s at h n =
+    let u : same_number e.at at + named at es ≡ 0 = n in
+    let k : slot_of (set pool at s) e ≡ slot_of pool e = same_slot pool s at e (none_is e.at at (let z : same_number e.at at ≡ 0 = omega arith in z)) in
+    λ i. k i ∷ end_slots pool es s at h (let z : named at es ≡ 0 = omega arith in z) i
+
+pub end_named : (es : List Entry) (e : Entry) (k : ℕ) → named k (es ++ e ∷ []) ≡ same_number e.at k + named k es
+end_named [] e k = refl
+end_named (x ∷ es) e k =
+    let h = end_named es e k in
+    let z : same_number x.at k + named k (es ++ e ∷ []) ≡ same_number e.at k + (same_number x.at k + named k es) = omega arith in z
+
+pub end_listed : (ns : List ℕ) (n k : ℕ) → listed k (ns ++ n ∷ []) ≡ same_number n k + listed k ns
+end_listed [] n k = refl
+end_listed (x ∷ ns) n k =
+    let h = end_listed ns n k in
+    let z : same_number x k + listed k (ns ++ n ∷ []) ≡ same_number n k + (same_number x k + listed k ns) = omega arith in z
+
+summed : (es : List Entry) (k : ℕ) → sum_by (λ e. same_number e.at k) es ≡ named k es
+summed [] k = refl
+summed (e ∷ es) k = sum_by-cons (λ e. same_number e.at k) e es ∙ ap (λ n. same_number e.at k + n) (summed es k)
+
+pub same_named : (es fs : List Entry) (k : ℕ) → IsPermutation es fs → named k fs ≡ named k es
+same_named es fs k p = sym (summed fs k) ∙ sum_by-IsPermutation (λ e. same_number e.at k) es fs p ∙ summed es k
+
+-- after a put for the root
+pub kept_put : (pool pool' : List Slot) (es es' : List Entry) (free : List ℕ) → length pool' ≡ length pool → length es' ≡ length es → AllByRecursion (Fits pool') es' → ((k : ℕ) → named k es' ≡ named k es) → Kept pool es free → Kept pool' es' free
+kept_put pool pool' es es' free w l f n k = record {
+  wide = w ∙ k.wide;
+  fit = f;
+  below = k.below;
+  count = ap (λ m. m + length free) l ∙ k.count;
+  once = λ j. let a = n j in let b = k.once j in omega arith;
+}
+
+-- after a put to a free place
+pub kept_end : (pool pool' : List Slot) (es es' : List Entry) (u : List ℕ) (at : ℕ) → length pool' ≡ length pool → length es' ≡ length es + 1 → AllByRecursion (Fits pool') es' → ((k : ℕ) → named k es' ≡ same_number at k + named k es)
+    → Kept pool es (u ++ at ∷ []) → Kept pool' es' u
+kept_end pool pool' es es' u at w l f n k = record {
+  wide = w ∙ k.wide;
+  fit = f;
+  below = all_front u (at ∷ []) k.below;
+  count = omega (arith, l, k.count, length-append u (at ∷ []));
+  once = λ j. let a = n j in let b = k.once j in let c = end_listed u at j in omega arith;
+}
+  where
+    all_front : (u v : List ℕ) → AllByRecursion (λ n. n < 512) (u ++ v) → AllByRecursion (λ n. n < 512) u
+    all_front [] v a = tt
+    all_front (x ∷ u) v a = (a.0, all_front u v a.1)
+
+-- the last of the free ones is one of 512, and no entry names it
+pub free_last : (pool : List Slot) (es : List Entry) (u : List ℕ) (at : ℕ) → Kept pool es (u ++ at ∷ []) → (at < length pool) × (named at es ≡ 0)
+free_last pool es u at k =
+    let one : same_number at at ≡ 1 = one_is at at refl in
+    let a = k.once at in
+    let b = end_listed u at at in
+    let w = k.wide in
+    let low : at < 512 = last_of u k.below in
+    (omega arith, omega arith)
+  where
+    last_of : (u : List ℕ) → AllByRecursion (λ n. n < 512) (u ++ at ∷ []) → at < 512
+    last_of [] h = h.0
+    last_of (x ∷ u) h = last_of u h.1
+
+all_ends : (P : Entry → Type 0) (u : List Entry) (z : Entry) → AllByRecursion P (u ++ z ∷ []) → AllByRecursion P u × P z
+all_ends P [] z h = (tt, h.0)
+all_ends P (x ∷ u) z h = let r = all_ends P u z h.1 in ((h.0, r.0), r.1)
+
+pub front_fits : (pool : List Slot) (u : List Entry) (z : Entry) → AllByRecursion (Fits pool) (u ++ z ∷ []) → AllByRecursion (Fits pool) (set u 0 z)
+front_fits pool [] z h = tt
+front_fits pool (x ∷ u) z h = let r = all_ends (Fits pool) (x ∷ u) z h in (r.1, r.0.1)
+
+-- after the root is dropped
+pub kept_drop : (pool : List Slot) (u es' : List Entry) (z : Entry) (free : List ℕ) → 0 < length u → IsPermutation (set u 0 z) es' → Kept pool (u ++ z ∷ []) free → Kept pool es' (free ++ (get_or u 0 no_entry).at ∷ [])
+kept_drop pool [] es' z free h p k = absurd (let y : ⊥ = omega arith in y)
+kept_drop pool (x ∷ u) es' z free h p k =
+    let l = as_long (z ∷ u) es' p in
+    let b = k.fit.0.within in
+    let w = k.wide in
+    record {
+      wide = k.wide;
+      fit = all_shuffled (Fits pool) (z ∷ u) es' p (front_fits pool (x ∷ u) z k.fit);
+      below = All-append (λ n. n < 512) free (x.at ∷ []) k.below ((let y : x.at < 512 = omega arith in y), tt);
+      count = omega (arith, l, k.count, length-append free (x.at ∷ []), length-append u (z ∷ []));
+      once = λ j.
+          let a : named j es' ≡ same_number z.at j + named j u = same_named (z ∷ u) es' j p in
+          let b : (same_number x.at j + named j (u ++ z ∷ [])) + listed j free ≤ 1 = k.once j in
+          let d = end_named u z j in
+          let e = end_listed free x.at j in
+          let f : named j es' + listed j (free ++ x.at ∷ []) ≤ 1 = omega arith in f;
+    }
+
+pub kept_last : (pool : List Slot) (z : Entry) (free : List ℕ) → Kept pool (z ∷ []) free → Kept pool [] (free ++ z.at ∷ [])
+kept_last pool z free k =
+    let b = k.fit.0.within in
+    let w = k.wide in
+    record {
+      wide = k.wide;
+      fit = tt;
+      below = All-append (λ n. n < 512) free (z.at ∷ []) k.below ((let y : z.at < 512 = omega arith in y), tt);
+      count = omega (arith, k.count, length-append free (z.at ∷ []));
+      once = λ j.
+          let c : (same_number z.at j + 0) + listed j free ≤ 1 = k.once j in
+          let e = end_listed free z.at j in
+          let f : 0 + listed j (free ++ z.at ∷ []) ≤ 1 = omega arith in f;
+    }
+
+different : (a k : ℕ) → a < k → same_number a k ≡ 0
+different a k h = grind (arith, nat_tests)
+
+-- one more number is free
+pub more_free : (ns : List ℕ) (n k : ℕ) → ((j : ℕ) → listed j ns ≤ 1) → ((j : ℕ) → n ≤ j → listed j ns ≡ 0) → listed k (ns ++ n ∷ []) ≤ 1
+more_free ns n k o f =
+    let e = end_listed ns n k in
+    let a = o k in
+    ⊎_elim (λ (t : n ≡ k). let z = f k (omega arith) in let y = one_is n k t in omega arith) (λ (t : n ≡ k → ⊥). let y = unlike n k t in omega arith) (which n k)
+  where
+    unlike : (a k : ℕ) → (a ≡ k → ⊥) → same_number a k ≡ 0
+    unlike a k h = grind (arith, nat_tests)
+
+pub less_fresh : (ns : List ℕ) (n k : ℕ) → ((j : ℕ) → n ≤ j → listed j ns ≡ 0) → n + 1 ≤ k → listed k (ns ++ n ∷ []) ≡ 0
+less_fresh ns n k f h = let e = end_listed ns n k in let a = f k (omega arith) in let b = different n k (omega arith) in omega arith
+
+-- of 512 free slots none is named
+pub kept_free : (pool : List Slot) (ns : List ℕ) → length pool ≡ 512 → AllByRecursion (λ n. n < 512) ns → length ns ≡ 512 → ((k : ℕ) → listed k ns ≤ 1) → Kept pool [] ns
+kept_free pool ns w b l o = record { wide = w; fit = tt; below = b; count = omega arith; once = λ k. let a = o k in omega arith }
