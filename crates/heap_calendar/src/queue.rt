@@ -17,7 +17,7 @@ ghost use Rattle.slot.specs.declared.Slot.{Slot};
 
 use crate::entry::Entry;
 use crate::pick::nth;
-use crate::root::{first, live, put_in, root, second, settle};
+use crate::root::{below_child, first, live, put_in, root, second, settle};
 use crate::store::CAPACITY;
 use calendar::Held;
 use event::Message;
@@ -133,6 +133,7 @@ impl Queue {
             1 => second(pool, all, self.taken)
                 .filter(|s| alike(s))
                 .map(|s| s.held),
+            2 if !self.taken => below_child(pool, all).filter(|s| alike(s)).map(|s| s.held),
             _ => nth(pool, live(all, self.taken), alike, i).map(|s| s.held),
         }
     }

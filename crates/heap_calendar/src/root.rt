@@ -170,7 +170,7 @@ fn below_root<'a>(pool: &'a [Slot], all: &[Entry]) -> Option<&'a Slot>
 }
 
 // The first but the root and its earlier child: the other child, or a child of the earlier one.
-fn below_child<'a>(pool: &'a [Slot], all: &[Entry]) -> Option<&'a Slot>
+pub(crate) fn below_child<'a>(pool: &'a [Slot], all: &[Entry]) -> Option<&'a Slot>
     requires heap { IsHeap turned (slots pool.now all.now) }
     requires fit { AllByRecursion (Fits pool.now) all.now }
     ensures { option_copied result ≡ slice_get (ranked earlier (slots pool.now all.now)) 2 }

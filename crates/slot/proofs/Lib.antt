@@ -3,3 +3,4 @@ pub mod Picks
 pub mod Nths
 pub mod Holds
 pub mod Puts
+pub mod Looks

@@ -119,7 +119,7 @@ module _ {C M : Type 0} (contents : C → Contents) (meaning : M → Meaning) (o
 
   pub turned_more : (s t : Study C M) (v : ℕ) → v < 16 → has leaders v ≡ true → SameParts contents old s → s.heads ≡ old.heads → Turned s v
       → (TurnReady (meaning s.model) (contents s.calendar).room s.heads.items (view_of contents s) v → leads_in (view_of contents s) v (first (waiting v s.heads.items)) ≡ true
-        → view_of contents t ≡ turn_of (meaning s.model) (view_of contents s) v (first (waiting v s.heads.items))) → Turned t (v + 1)
+      → view_of contents t ≡ turn_of (meaning s.model) (view_of contents s) v (first (waiting v s.heads.items))) → Turned t (v + 1)
   turned_more s t v l member same heads h turn ready led =
       let e = h ready led in
       turn (subst (λ (x : Meaning × ℕ × List Held × View). TurnReady x.0 x.1 x.2 x.3 v) (λ i. (meaning (sym same.model i), sym same.room i, (sym heads i).items, sym e i)) (ready v l))
