@@ -114,10 +114,14 @@ pub top_of : (xs : List Slot) (nx : List (Option ℕ)) (o : Option ℕ) (ps : Li
 top_of xs nx o [] h a = ap (slot_at xs) h
 top_of xs nx o (p ∷ ps) h a = ap (slot_at xs) h.0 ∙ get_at xs p a.0
 
+-- so a bucket's head has the first of its row
+pub head_slot : (hs nx : List (Option ℕ)) (xs : List Slot) (b : ℕ) → b < 64 → Linked hs nx xs → slot_at xs (get_or hs b None) ≡ head (row_of b xs)
+head_slot hs nx xs b h d = top_of xs nx (get_or hs b None) (d.row b) (d.runs b h) (d.within b h) ∙ ap head (d.listed b h)
+
 tops_led : (hs nx : List (Option ℕ)) (xs : List Slot) → Linked hs nx xs → Led (tops xs hs) xs
 tops_led hs nx xs d = record {
   wide = tops_length xs hs ∙ d.wide;
-  led = λ b h. tops_get xs hs b ∙ top_of xs nx (get_or hs b None) (d.row b) (d.runs b h) (d.within b h) ∙ ap head (d.listed b h);
+  led = λ b h. tops_get xs hs b ∙ head_slot hs nx xs b h d;
 }
 
 leaders_tops : (xs : List Slot) (hs : List (Option ℕ)) → filter_map (slot_at xs) hs ≡ leaders (tops xs hs)

@@ -70,7 +70,7 @@ length_kept : (p : Slot → Bool) (l : List Slot) → length (filter p l) ≤ le
 length_kept p [] = omega arith
 length_kept p (x ∷ l) = let n = length_kept p l in cond_both (p x) (x ∷ filter p l) (filter p l) (λ t. length t ≤ suc (length l)) (λ _. omega (arith, n)) (λ _. omega (arith, n))
 
-rising_kept : (p : Slot → Bool) (l : List Slot) → Rising earlier l → Rising earlier (filter p l)
+pub rising_kept : (p : Slot → Bool) (l : List Slot) → Rising earlier l → Rising earlier (filter p l)
 rising_kept p [] h = tt
 rising_kept p (x ∷ l) h = cond_both (p x) (x ∷ filter p l) (filter p l) (Rising earlier) (λ _. (all_kept_by p (λ y. earlier y x ≡ false) l h.0, rising_kept p l h.1)) (λ _. rising_kept p l h.1)
 

@@ -1,5 +1,5 @@
 // The slots of each bucket, linked through the pool in order.
-ghost use Rattle.std.specs.Prelude.{true, false, [], ◌≡◌, ◌+◌, ℕ, List, ◌∷◌, ◌≤◌, ◌<◌, length, Some, ◌≢◌, take, slice_index_or, None};
+ghost use Rattle.std.specs.Prelude.{true, false, [], ◌≡◌, ◌+◌, ◌/◌, ◌%◌, ℕ, List, ◌∷◌, ◌≤◌, ◌<◌, length, Some, ◌≢◌, take, slice_index_or, None};
 ghost use Rattle.std.specs.List.{AllByRecursion, slice_get, swap_remove};
 ghost use Rattle.event.specs.Lists.{first};
 ghost use Rattle.slot.specs.declared.Slot.{Slot};
@@ -149,14 +149,34 @@ impl Chains {
         self.heads.iter().filter_map(|h| slot_at(pool, *h)).max()
     }
 
-    // The first of those that are left, once `taken` was taken: the next of its bucket, if that is of the same span.
-    pub(crate) fn next_first(&self, pool: &[Slot], taken: &Slot) -> Option<Slot>
-        ensures { Linked self.now.heads self.now.next pool.now → AllByRecursion (λ y. earlier y taken.now ≡ false) (ranked earlier pool.now) → result ≡ first (ranked earlier pool.now) }
+    // The first of the span's bucket, if it is of the span.
+    fn first_in(&self, pool: &[Slot], span: u32) -> Option<Slot>
+        requires { Linked self.now.heads self.now.next pool.now }
+        ensures some { (s : Slot) → result ≡ Some s → (first (row_of (span % 64) pool.now) ≡ Some s) × (s.held.message.time / 64 ≡ span) }
+        ensures none { result ≡ None → (s : Slot) → first (row_of (span % 64) pool.now) ≡ Some s → s.held.message.time / 64 ≢ span }
     {
-        match slot_at(pool, self.heads[bucket(taken)]) {
-            Some(s) if s.held.message.time / SPAN == taken.held.message.time / SPAN => Some(s),
-            _ => self.earliest(pool),
+        let s = slot_at(pool, self.heads[span as usize % BUCKETS])?;
+        if s.held.message.time / SPAN == span {
+            Some(s)
+        } else {
+            None
         }
+    }
+
+    // The first of those that are left, once `taken` was taken: that of the first span from there on that has one, or else the earliest of all buckets.
+    pub(crate) fn next_first(&self, pool: &[Slot], taken: &Slot) -> Option<Slot>
+        requires linked { Linked self.now.heads self.now.next pool.now }
+        requires left { AllByRecursion (λ y. earlier y taken.now ≡ false) (ranked earlier pool.now) }
+        ensures { result ≡ first (ranked earlier pool.now) }
+    {
+        let span = taken.held.message.time / SPAN;
+        for ahead in 0..BUCKETS as u32 {
+            let found = self.first_in(pool, span + ahead);
+            if found.is_some() {
+                return found;
+            }
+        }
+        self.earliest(pool)
     }
 
     // Number i, from 0, of the bucket b.

@@ -43,8 +43,7 @@ invariant_of-self c =
     let d : Linked hs nx ys = c.unlink.ensures c.swap_remove.result ys (rw c.deref.ensures.value e.items) (rw c.deref.ensures.value t) in (
       omega (arith, e.capacity, c.self.invariant.0),
       sound_rest s.puts s.first q s.chains.heads s.chains.next hs nx xs ys (at xs i) t c.self.invariant.1 d
-          (λ _. subst (λ l. Linked hs nx l → AllByRecursion (λ y. earlier y x ≡ false) (ranked earlier l) → q ≡ head (ranked earlier l)) c.deref-2.ensures.value c.next_first-self-inside.ensures d
-          (subst (λ y. AllByRecursion (λ z. earlier z y ≡ false) (ranked earlier ys)) p.1 (subst (Rising earlier) t (ranked_rising earlier strictly xs)).0)),
+          (λ _. c.next_first-self-inside.ensures ∙ ap (λ l. head (ranked earlier l)) c.deref-2.ensures.value),
     )
 
 pub returns-clause-held : goal.returns-clause-held
@@ -58,3 +57,29 @@ returns-clause-held c =
     let p = first_at s.chains.heads s.chains.next xs c.in_ok-first.first c.bucket-b.result i f c.bucket-b.ensures.value c.in_ok-place.was c.self.invariant.1.linked in
     let t = taken xs ys i c.swap_remove.result (sym f ∙ ap Some (sym p.1)) p.0 e.value e.items in
     rw (← c.self.view_is) (sym (ap (λ l. rest (bares l)) t))
+
+pub next_first-self-inside-requires-clause-linked : goal.next_first-self-inside-requires-clause-linked
+next_first-self-inside-requires-clause-linked c =
+    let s = c.self.inside in
+    let xs = s.pool.items in
+    let ys = c.swap_remove.new.self.items in
+    let x = c.in_ok-first.first in
+    let i = c.in_ok-place.place in
+    let e = c.swap_remove.ensures in
+    let f = sym c.in_ok-first.was ∙ c.self.invariant.1.known in
+    let p = first_at s.chains.heads s.chains.next xs x c.bucket-b.result i f c.bucket-b.ensures.value c.in_ok-place.was c.self.invariant.1.linked in
+    let t = taken xs ys i c.swap_remove.result (sym f ∙ ap Some (sym p.1)) p.0 e.value e.items in
+    rw c.deref-2.ensures.value (c.unlink.ensures c.swap_remove.result ys (rw c.deref.ensures.value e.items) (rw c.deref.ensures.value t))
+
+pub next_first-self-inside-requires-clause-left : goal.next_first-self-inside-requires-clause-left
+next_first-self-inside-requires-clause-left c =
+    let s = c.self.inside in
+    let xs = s.pool.items in
+    let ys = c.swap_remove.new.self.items in
+    let x = c.in_ok-first.first in
+    let i = c.in_ok-place.place in
+    let e = c.swap_remove.ensures in
+    let f = sym c.in_ok-first.was ∙ c.self.invariant.1.known in
+    let p = first_at s.chains.heads s.chains.next xs x c.bucket-b.result i f c.bucket-b.ensures.value c.in_ok-place.was c.self.invariant.1.linked in
+    let t = taken xs ys i c.swap_remove.result (sym f ∙ ap Some (sym p.1)) p.0 e.value e.items in
+    rw c.deref-2.ensures.value (subst (λ y. AllByRecursion (λ z. earlier z y ≡ false) (ranked earlier ys)) p.1 (subst (Rising earlier) t (ranked_rising earlier strictly xs)).0)
