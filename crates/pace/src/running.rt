@@ -1,10 +1,12 @@
 // A study runs a plan.
-ghost use Rattle.std.specs.Prelude.{◌≡◌, ℕ, ◌≤◌, List, IfOk, min, true};
+ghost use Rattle.std.specs.Prelude.{◌≡◌, ℕ, ◌≤◌, List, IfOk, Ok, min, true};
+ghost use Rattle.account.specs.Account.{decide};
+ghost use Rattle.account.specs.Answers.{done};
 ghost use Rattle.event.specs.declared.Start.{Start};
 ghost use Rattle.pace.specs.Checksums.{AllSummed};
 ghost use Rattle.pace.specs.Paces.{InService, Paced, Told};
 ghost use Rattle.study.specs.Plain.{NeverBranched};
-ghost use Rattle.study.specs.Promises.{SameParts};
+ghost use Rattle.study.specs.Promises.{SameParts, Tells};
 
 use crate::checksum::with_journal;
 use crate::plan::{Figures, Plan};
@@ -35,13 +37,14 @@ fn step<C: Calendar, M: Model>(study: &mut Study<C, M>, count: u32) -> u32
     count
 }
 
-// Spends the permit on an order, or on none where that is denied.
+// Spends the permit on an order, or on none where that is denied, which is then told.
 fn spend<C: Calendar, M: Model>(
     study: &mut Study<C, M>,
     permit: Permit,
     place: u8,
     order: u32,
 ) -> Result<(), StudyFault>
+    ensures given { IfOk result (λ r. Tells C.meaning M.meaning study.old (decide permit place order) (λ _. done) (Ok r)) }
     ensures same { SameParts C.meaning study.old study.new }
     ensures keeps { InService C.meaning M.meaning study.old → InService C.meaning M.meaning study.new }
 {
