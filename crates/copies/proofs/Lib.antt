@@ -8,3 +8,4 @@ pub mod Groups
 pub mod Firsts
 pub mod Wholes
 pub mod Same
+pub mod Beside

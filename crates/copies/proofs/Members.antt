@@ -1,11 +1,10 @@
 -- The members of a group, taken one after the other, the smallest first.
-use Rattle.std.proofs.Common.{◌≡◌, ℕ, zero, suc, ◌+◌, ◌<◌, ◌≤◌, Bool, true, false, cond, ltb, leb, eqb, not, ◌&&◌, ◌||◌, sym, refl, ap, ◌∙◌, ⊎_elim, arith}
-use Rattle.std.proofs.lemmas.Bool.{cases_eq, cases_lt, eq-eqb, ne_eqb, and_parts, and_right, cond-false, both_ways}
+use Rattle.std.proofs.Common.{◌≡◌, ℕ, zero, suc, ◌+◌, ◌<◌, ◌≤◌, Bool, true, false, cond, ltb, leb, eqb, not, ◌&&◌, sym, refl, ap, ◌∙◌, ⊎_elim, arith}
+use Rattle.std.proofs.lemmas.Bool.{cases_eq, cases_lt, eq-eqb, ne_eqb, and_parts, and_right, both_ways}
 use Rattle.std.proofs.lemmas.Bool.Decides.{nat_tests}
 use Rattle.group.specs.declared.Group.{Group}
-use Rattle.group.specs.Groups.{count, gathered, has}
+use Rattle.group.specs.Groups.{count, has}
 use Rattle.group.proofs.Members.{has_above}
-use Rattle.account.specs.Account.{any_below}
 
 at_most : (a b : Bool) → (b ≡ true → a ≡ true) → cond b 1 0 ≤ cond a 1 0
 at_most true true h = omega arith
@@ -65,36 +64,9 @@ from_next group rest new n v h s e low is = record { small = omega (arith, s); l
         let j : leb n w ≡ true = grind (arith, nat_tests) in
         ap (λ b. not b && rest w) (ne_eqb w v ne) ∙ h.left w ∙ ap (λ b. b && group w) (j ∙ sym k)) (cases_eq w v)
 
-gathered_skip : (g : ℕ → Bool) (n m : ℕ) → n ≤ m → ((w : ℕ) → n ≤ w → w < m → g w ≡ false) → gathered g m ≡ gathered g n
-unfolding gathered
-gathered_skip g n zero l h = let e : 0 ≡ n = omega (arith, l) in ap (gathered g) e
-gathered_skip g n (suc m) l h = ⊎_elim
-    (λ (e : n ≡ suc m). ap (gathered g) (sym e))
-    (λ (ne : n ≡ suc m → ⊥). let k : n ≤ m = omega (arith, ne, l) in cond-false _ _ _ (h m k (omega arith)) ∙ gathered_skip g n m k (λ w a b. h w a (omega (arith, b)))) (cases_eq n (suc m))
-
-any_skip : (g : ℕ → Bool) (n m : ℕ) → n ≤ m → ((w : ℕ) → n ≤ w → w < m → g w ≡ false) → any_below g m ≡ any_below g n
-unfolding any_below
-any_skip g n zero l h = let e : 0 ≡ n = omega (arith, l) in ap (any_below g) e
-any_skip g n (suc m) l h = ⊎_elim
-    (λ (e : n ≡ suc m). ap (any_below g) (sym e))
-    (λ (ne : n ≡ suc m → ⊥). let k : n ≤ m = omega (arith, ne, l) in ap (λ b. b || any_below g m) (h m k (omega arith)) ∙ any_skip g n m k (λ w a b. h w a (omega (arith, b)))) (cases_eq n (suc m))
-
-module _ (group rest : ℕ → Bool) (n : ℕ) (h : From group rest n) (f : ℕ → Bool) where
-  none_between : (m : ℕ) → ((w : ℕ) → w < m → rest w ≡ false) → (w : ℕ) → n ≤ w → w < m → (group w && f w) ≡ false
-  none_between m low w a b = ap (λ x. x && f w) (gap group rest n h w a (low w b))
-
-  -- up to the next member, and to the end where none is left
-  pub gathered_up : (m : ℕ) → n ≤ m → ((w : ℕ) → w < m → rest w ≡ false) → gathered (λ w. group w && f w) m ≡ gathered (λ w. group w && f w) n
-  gathered_up m l low = gathered_skip (λ w. group w && f w) n m l (none_between m low)
-
-  pub any_up : (m : ℕ) → n ≤ m → ((w : ℕ) → w < m → rest w ≡ false) → any_below (λ w. group w && f w) m ≡ any_below (λ w. group w && f w) n
-  any_up m l low = any_skip (λ w. group w && f w) n m l (none_between m low)
-
-  pub before_next : (v : ℕ) → rest v ≡ true → n ≤ v
-  before_next v e = reached group rest n v h e
-
-  pub next_of_group : (v : ℕ) → rest v ≡ true → group v ≡ true
-  next_of_group v e = (and_parts (leb n v) (group v) (sym (h.left v) ∙ e)).1
+-- who is left is of the group
+pub next_of_group : (group rest : ℕ → Bool) (n : ℕ) → From group rest n → (f : ℕ → Bool) (v : ℕ) → rest v ≡ true → group v ≡ true
+next_of_group group rest n h f v e = (and_parts (leb n v) (group v) (sym (h.left v) ∙ e)).1
 
 -- a member is below 16
 pub member_small : (g : Group) (v : ℕ) → has g v ≡ true → v < 16

@@ -1,8 +1,7 @@
 -- The numbers below n, from the front and from the end.
-use Rattle.std.proofs.Common.{◌≡◌, ℕ, zero, suc, ◌+◌, ◌≤◌, Bool, true, false, cond, ◌||◌, [], ◌∷◌, ◌++◌, refl, ap, ◌∙◌, add-one, zero-add, arith}
+use Rattle.std.proofs.Common.{◌≡◌, ℕ, zero, suc, ◌+◌, ◌≤◌, Bool, true, false, ◌||◌, [], ◌∷◌, ◌++◌, refl, ap, ◌∙◌, add-one, zero-add, arith}
 use Rattle.std.specs.List.{list_any, range_with_len}
 use Rattle.std.proofs.lemmas.List.Folds.{list_any-append}
-use Rattle.group.specs.Groups.{gathered, none, with}
 use Rattle.account.specs.Account.{any_below, ind, sum_below}
 
 -- one number more
@@ -23,14 +22,6 @@ any_listed f (suc n) =
     turned true false = refl
     turned false true = refl
     turned false false = refl
-
-pub gathered_none : (f : ℕ → Bool) → gathered f 0 ≡ none
-unfolding gathered
-gathered_none f = refl
-
-pub gathered_more : (f : ℕ → Bool) (n : ℕ) → gathered f (n + 1) ≡ cond (f n) (with (gathered f n) n) (gathered f n)
-unfolding gathered
-gathered_more f n = ap (gathered f) (add-one n)
 
 pub ind_few : (b : Bool) → ind b ≤ 1
 ind_few true = omega arith

@@ -1,26 +1,14 @@
 -- What a change of a table of names makes of the cells.
-use Rattle.std.proofs.Common.{◌≡◌, ℕ, ◌+◌, ◌*◌, ◌/◌, ◌<◌, ◌≤◌, Bool, true, false, not, cond, eqb, ◌&&◌, ltb, List, length, get_or, get_or-set_other, slice_set, refl, sym, ap, ◌∙◌, ◌⊎◌, inl, inr, ⊎_elim, arith}
-use Rattle.std.proofs.lemmas.Bool.{cases_lt, cases_Bool, and_parts, and_right, eqb-true, cond-true, cond-false, ltb-true, lt-ltb}
+use Rattle.std.proofs.Common.{◌≡◌, ℕ, ◌+◌, ◌*◌, ◌/◌, ◌<◌, ◌≤◌, Bool, true, false, not, cond, eqb, ◌&&◌, ltb, List, length, get_or, refl, sym, ap, ◌∙◌, ◌⊎◌, inl, inr, ⊎_elim, arith}
+use Rattle.std.proofs.lemmas.Bool.{cases_lt, cases_Bool, and_parts, and_right, eqb-true, cond-true, cond-false, ltb-true}
 use Rattle.std.proofs.lemmas.Bool.Decides.{nat_tests}
 use Rattle.std.proofs.lemmas.List.{get_or_past}
-use Rattle.group.specs.declared.Group.{Group}
-use Rattle.group.specs.Groups.{has}
-use Rattle.copies.specs.Rows.{Whole, cell_at}
-use Rattle.copies.specs.Sharing.{copy_cells}
+use Rattle.copies.specs.Rows.{cell_at}
 use Rattle.copies.specs.Starts.{starting_cell}
-use Rattle.copies.proofs.Members.{member_small}
 
 -- two functions of two numbers are one, if they are the same at any
 pub same_cells : (f g : ℕ → ℕ → ℕ) → ((v p : ℕ) → f v p ≡ g v p) → f ≡ g
 same_cells f g h = λ i v p. h v p i
-
--- where all have the cell there, none has to go over
-pub have_it : (cell : ℕ → ℕ → ℕ) (group : Group) (p c : ℕ) → cell 0 p ≡ c → ((v : ℕ) → v < 16 → cell v p ≡ cell 0 p) → (w q : ℕ) → cell w q ≡ cond (has group w && eqb q p) c (cell w q)
-have_it cell group p c here all w q = ⊎_elim
-    (λ (e : (has group w && eqb q p) ≡ true).
-    let a = and_parts (has group w) (eqb q p) e in
-    ap (cell w) (eqb-true q p a.1) ∙ all w (member_small group w a.0) ∙ here ∙ sym (cond-true _ c (cell w q) e))
-    (λ (e : (has group w && eqb q p) ≡ false). sym (cond-false _ c (cell w q) e)) (cases_Bool (has group w && eqb q p))
 
 -- none of a group has gone over while all are left
 pub none_over : (g b : Bool) (c x : ℕ) → x ≡ cond ((g && not g) && b) c x
@@ -59,27 +47,16 @@ begun_cells rows h = same_cells (cell_at rows) starting_cell (λ v p. ⊎_elim
 pub cell_past : (rows : List ℕ) (v p : ℕ) → ltb p 32 ≡ false → cell_at rows v p ≡ 0
 cell_past rows v p e = cond-false (ltb v 16 && ltb p 32) _ _ (and_right (ltb v 16) (ltb p 32) e)
 
--- the child has its parent's cells, if it has them at all places
-pub copied_cells : (xs ys : List ℕ) (parent child n : ℕ) → 32 ≤ n
-    → ((v p : ℕ) → cell_at ys v p ≡ cond (eqb v child && ltb p n) (cell_at xs parent p) (cell_at xs v p)) → cell_at ys ≡ copy_cells (cell_at xs) parent child
-copied_cells xs ys parent child n m h = same_cells (cell_at ys) (copy_cells (cell_at xs) parent child) (λ v p. h v p ∙ go v p (cases_Bool (eqb v child)) (cases_Bool (ltb p n)))
-  where
-    go : (v p : ℕ) → (eqb v child ≡ true) ⊎ (eqb v child ≡ false) → (ltb p n ≡ true) ⊎ (ltb p n ≡ false) → cond (eqb v child && ltb p n) (cell_at xs parent p) (cell_at xs v p) ≡ cell_at xs (cond (eqb v child) parent v) p
-    go v p (inl e) (inl l) = simp (e, l) refl
-    go v p (inl e) (inr l) = let k : ltb p 32 ≡ false = grind (arith, nat_tests) in cond-false _ _ _ (and_right (eqb v child) (ltb p n) l) ∙ cell_past xs v p k ∙ sym (cell_past xs (cond (eqb v child) parent v) p k)
-    go v p (inr e) l = simp e refl
-
--- as a study begins, all have one
-pub begun_whole : (rows : List ℕ) → ((i : ℕ) → i < 512 → get_or rows i 0 ≡ i / 16) → (p : ℕ) → p < 32 → Whole rows p
-begun_whole rows h p l v m = h (p * 16 + v) (omega arith) ∙ (let z : (p * 16 + v) / 16 ≡ (p * 16) / 16 = omega arith in z) ∙ sym (h (p * 16) (omega arith))
-
--- another place stays whole where a cell is changed
-pub whole_set : (rows : List ℕ) (v p q c : ℕ) → v < 16 → (q ≡ p → ⊥) → Whole rows q → Whole (slice_set rows (p * 16 + v) c) q
-whole_set rows v p q c l ne h w m =
-    get_or-set_other rows (p * 16 + v) (q * 16 + w) c 0 (λ e. ne (omega (arith, e, l, m)))
-    ∙ h w m ∙ sym (get_or-set_other rows (p * 16 + v) (q * 16) c 0 (λ e. ne (omega (arith, e, l))))
-
--- and so the cells are one
-pub whole_cells : (rows : List ℕ) (p : ℕ) → Whole rows p → (v w : ℕ) → v < 16 → w < 16 → cell_at rows v p ≡ cell_at rows w p
-whole_cells rows p h v w l m =
-    ap (λ b. cond (b && ltb p 32) (get_or rows (p * 16 + v) 0) 0) (lt-ltb v 16 l) ∙ ap (λ x. cond (ltb p 32) x 0) (h v l ∙ sym (h w m)) ∙ sym (ap (λ b. cond (b && ltb p 32) (get_or rows (p * 16 + w) 0) 0) (lt-ltb w 16 m))
+-- the child has its parent's cell at one place more
+pub one_copied : (group : ℕ → Bool) (now start : ℕ → ℕ → ℕ) (parent child c p w q : ℕ) → group w ≡ eqb w child → c ≡ now parent p → ((v r : ℕ) → now v r ≡ cond (eqb v child && ltb r p) (start parent r) (start v r))
+    → cond (group w && eqb q p) c (now w q) ≡ cond (eqb w child && ltb q (p + 1)) (start parent q) (start w q)
+one_copied group now start parent child c p w q is here h = ap (λ b. cond (b && eqb q p) c (now w q)) is ∙ ⊎_elim
+    (λ (e : (eqb w child && eqb q p) ≡ true).
+    let a = and_parts (eqb w child) (eqb q p) e in
+    let y : q ≡ p = eqb-true q p a.1 in
+    let none : ltb p p ≡ false = grind (arith, nat_tests) in
+    let t : (eqb w child && ltb q (p + 1)) ≡ true = grind (arith, nat_tests) in
+    cond-true _ _ _ e ∙ here ∙ h parent p ∙ cond-false _ _ _ (and_right (eqb parent child) (ltb p p) none) ∙ sym (cond-true _ _ _ t ∙ ap (start parent) y))
+    (λ (e : (eqb w child && eqb q p) ≡ false).
+    let t : (eqb w child && ltb q p) ≡ (eqb w child && ltb q (p + 1)) = grind (arith, nat_tests) in
+    cond-false _ _ _ e ∙ h w q ∙ ap (λ b. cond b (start parent q) (start w q)) t) (cases_Bool (eqb w child && eqb q p))

@@ -1,22 +1,23 @@
 -- Where all share, those that are live are one group.
-use Rattle.std.proofs.Common.{◌≡◌, ℕ, zero, suc, ◌+◌, ◌*◌, ◌<◌, ◌≤◌, Bool, true, false, not, eqb, ltb, ◌&&◌, ◌||◌, List, length, get_or, sym, refl, ap, ◌∙◌, ⊎_elim, arith}
-use Rattle.std.proofs.lemmas.Bool.{cases_Bool, cases_lt, eq-eqb, eqb-true, or_parts}
+use Rattle.std.proofs.Common.{◌≡◌, ℕ, zero, suc, ◌+◌, ◌*◌, ◌<◌, ◌≤◌, Bool, true, false, cond, not, eqb, leb, ltb, ◌&&◌, ◌||◌, List, sym, refl, ap, ◌∙◌, ⊎_elim, arith}
+use Rattle.std.proofs.lemmas.Bool.{and_parts, cases_Bool, cases_lt, eq-eqb, eqb-true, lt-ltb, or_parts}
 use Rattle.std.proofs.lemmas.Bool.Decides.{nat_tests}
 use Rattle.std.proofs.lemmas.Nat.{mul-le}
-use Rattle.std.proofs.lemmas.List.{get_or_past}
 use Rattle.group.specs.declared.Group.{Group}
-use Rattle.group.specs.Groups.{count, has}
+use Rattle.group.specs.Groups.{count, gathered, has}
+use Rattle.group.proofs.Members.{has_gathered}
 use Rattle.account.specs.Account.{any_below, ind, sum_below}
 use Rattle.account.specs.Groups.{leads}
 use Rattle.account.proofs.Bounds.{any_from}
 use Rattle.account.proofs.Leaders.{least_in, sum_first}
 use Rattle.copies.specs.declared.names.Names.{Names}
 use Rattle.copies.specs.Names.{cell_in}
+use Rattle.copies.specs.Rows.{group_at, is_whole_at}
 use Rattle.copies.specs.Sharing.{groups}
 use Rattle.copies.specs.Tests.{AllShare}
-use Rattle.copies.proofs.Leads.{few_lead}
+use Rattle.copies.proofs.Leads.{few_counted, few_lead}
 use Rattle.copies.proofs.Members.{member_small}
-use Rattle.copies.proofs.Rows.{cell_past, whole_cells}
+use Rattle.copies.proofs.Rows.{cell_past}
 use Rattle.copies.proofs.Numbers.{ind_few}
 
 any_alike : (f g : ℕ → Bool) (n : ℕ) → ((w : ℕ) → w < n → f w ≡ g w) → any_below f n ≡ any_below g n
@@ -45,16 +46,17 @@ one_group live share all =
     ap (λ b. ind (has live v && not b)) (any_alike (λ w. has live w && share v w) (has live) v (λ w m. and_true (has live w) (share v w) (all v w l (omega (arith, l, m))))))
     ∙ sum_first (has live) 16
 
--- and there is one unless none is live
-pub one_unless_empty : (live : Group) (empty : Bool) → (empty ≡ true → (w : ℕ) → has live w ≡ false) → (empty ≡ false → (w : ℕ) × (has live w ≡ true)) → ind (not empty) ≡ ind (any_below (has live) 16)
-one_unless_empty live true none some = sym (ap ind (none_below (has live) 16 (none refl)))
-one_unless_empty live false none some = let r = some refl in sym (ap ind (any_from (has live) 16 r.0 (member_small live r.0 r.1) r.1))
+-- a group has a member unless it is empty
+pub some_unless_empty : (group : Group) (empty : Bool) → (empty ≡ true → (w : ℕ) → has group w ≡ false) → (empty ≡ false → (w : ℕ) × (has group w ≡ true)) → not empty ≡ any_below (has group) 16
+some_unless_empty group true none some = sym (none_below (has group) 16 (none refl))
+some_unless_empty group false none some = let r = some refl in sym (any_from (has group) 16 r.0 (member_small group r.0 r.1) r.1)
 
-pub not_not : (b : Bool) → not (not b) ≡ b
-not_not true = refl
-not_not false = refl
+-- and one that was gathered unless none passes
+pub some_gathered : (among group : Group) (f : ℕ → Bool) (empty : Bool) → group ≡ gathered (λ w. has among w && f w) 16 → (empty ≡ true → (w : ℕ) → has group w ≡ false) → (empty ≡ false → (w : ℕ) × (has group w ≡ true)) → not empty ≡ any_below (λ w. has among w && f w) 16
+some_gathered among group f empty is none some = some_unless_empty group empty none some
+    ∙ any_alike (has group) (λ w. has among w && f w) 16 (λ w l. ap (λ g. has g w) is ∙ has_gathered (λ u. has among u && f u) 16 w ∙ ap (λ b. b && (b && (has among w && f w))) (lt-ltb w 16 l))
 
--- so no more than one there, and one for each that is live elsewhere
+-- no more than one leads where all share, and one for each that is live elsewhere
 place_most : (live : Group) (share : ℕ → ℕ → Bool) (parted here : Bool) → ((parted || here) ≡ false → AllShare share) → sum_below (λ v. ind (leads (has live) share v)) 16 ≤ 1 + (ind parted + ind here) * count (has live) 16
 place_most live share true here whole = let a = few_lead (has live) share 16 in grind (arith, a)
 place_most live share false true whole = let a = few_lead (has live) share 16 in grind (arith, a)
@@ -90,25 +92,54 @@ sum_up f n (suc m) l = ⊎_elim
     (λ (k : suc m ≤ n). let e : n ≡ suc m = omega (arith, k, l) in let a = ap (sum_below f) e in omega (arith, a)) (cases_lt n (suc m))
 
 -- no place past the last is parted
-parted_most : (parted : List Bool) (m n : ℕ) → length parted ≤ m → sum_below (λ p. ind (get_or parted p false)) n ≤ sum_below (λ p. ind (get_or parted p false)) m
+parted_most : (parted : ℕ → Bool) (m n : ℕ) → ((p : ℕ) → m ≤ p → parted p ≡ false) → sum_below (λ p. ind (parted p)) n ≤ sum_below (λ p. ind (parted p)) m
 unfolding sum_below
-parted_most parted m zero l = omega arith
-parted_most parted m (suc n) l = ⊎_elim
-    (λ (k : n < m). sum_up (λ p. ind (get_or parted p false)) (suc n) m (omega (arith, k)))
-    (λ (k : m ≤ n). let a = parted_most parted m n l in let b = ap ind (get_or_past parted n false (omega (arith, k, l))) in omega (arith, a, b)) (cases_lt n m)
+parted_most parted m zero past = omega arith
+parted_most parted m (suc n) past = ⊎_elim
+    (λ (k : n < m). sum_up (λ p. ind (parted p)) (suc n) m (omega (arith, k)))
+    (λ (k : m ≤ n). let a = parted_most parted m n past in let b = ap ind (past n k) in omega (arith, a, b)) (cases_lt n m)
 
 -- no more groups than this, where all share at each place that is neither parted nor this one
-pub most : (live : Group) (share : ℕ → ℕ → ℕ → Bool) (parted : List Bool) (place places tally told : ℕ) → length parted ≤ 32 → ((p : ℕ) → eqb p place ≡ false → get_or parted p false ≡ false → AllShare (share p))
-    → tally ≡ sum_below (λ p. ind (get_or parted p false)) 32 → told ≡ places + (tally + 1) * count (has live) 16 → groups places live share ≤ told
-most live share parted place places tally told l whole t e =
-    let a = groups_most live share (λ p. get_or parted p false) (λ p. eqb p place) places (λ p w. let d = or_parts (get_or parted p false) (eqb p place) w in whole p d.1 d.0) in
-    let b = parted_most parted 32 places l in
+pub most : (live : Group) (share : ℕ → ℕ → ℕ → Bool) (parted : ℕ → Bool) (place places tally told : ℕ) → ((p : ℕ) → 32 ≤ p → parted p ≡ false) → ((p : ℕ) → eqb p place ≡ false → parted p ≡ false → AllShare (share p))
+    → tally ≡ sum_below (λ p. ind (parted p)) 32 → told ≡ places + (tally + 1) * count (has live) 16 → groups places live share ≤ told
+most live share parted place places tally told past whole t e =
+    let a = groups_most live share parted (λ p. eqb p place) places (λ p w. let d = or_parts (parted p) (eqb p place) w in whole p d.1 d.0) in
+    let b = parted_most parted 32 places past in
     let d = one_here place places in
-    let m = mul-le (sum_below (λ p. ind (get_or parted p false)) places + sum_below (λ p. ind (eqb p place)) places) (count (has live) 16) (tally + 1) (count (has live) 16) (omega (arith, b, d, t)) (omega arith) in
+    let m = mul-le (sum_below (λ p. ind (parted p)) places + sum_below (λ p. ind (eqb p place)) places) (count (has live) 16) (tally + 1) (count (has live) 16) (omega (arith, b, d, t)) (omega arith) in
     omega (arith, a, m, e)
 
--- all share a place that is not parted
-pub whole_shared : (names : Names) (p : ℕ) → get_or names.parted p false ≡ false → AllShare (λ x y. eqb (cell_in names x p) (cell_in names y p))
-whole_shared names p e x y l m = eq-eqb _ _ (⊎_elim
-    (λ (k : p < 32). whole_cells names.rows p (names.whole p k e) x y l m)
-    (λ (k : 32 ≤ p). let past : ltb p 32 ≡ false = grind (arith, nat_tests) in cell_past names.rows x p past ∙ sym (cell_past names.rows y p past)) (cases_lt p 32))
+-- all are counted of which as many are counted
+count_full : (f : ℕ → Bool) (n : ℕ) → count f n ≡ n → (w : ℕ) → w < n → f w ≡ true
+unfolding count
+count_full f zero e w l = absurd (omega (arith, l))
+count_full f (suc n) e w l = ⊎_elim
+    (λ (t : f n ≡ true).
+    let one : ◌≡◌ {A = ℕ} (cond (f n) 1 0) 1 = ap (λ b. cond b 1 0) t in
+    ⊎_elim (λ (k : w < n). count_full f n (omega (arith, e, one)) w k) (λ (k : n ≤ w). let s : w ≡ n = omega (arith, k, l) in ap f s ∙ t) (cases_lt w n))
+    (λ (t : f n ≡ false). let none : ◌≡◌ {A = ℕ} (cond (f n) 1 0) 0 = ap (λ b. cond b 1 0) t in let a = few_counted f n in absurd (omega (arith, a, e, none))) (cases_Bool (f n))
+
+-- all have one cell at a place that is whole
+pub whole_cells : (names : Names) (p : ℕ) → is_whole_at names.sharing p ≡ true → (v w : ℕ) → v < 16 → w < 16 → cell_in names v p ≡ cell_in names w p
+whole_cells names p e v w l m = ⊎_elim
+    (λ (k : p < 32). as_first k v l ∙ sym (as_first k w m))
+    (λ (k : 32 ≤ p). let past : ltb p 32 ≡ false = grind (arith, nat_tests) in cell_past names.rows v p past ∙ sym (cell_past names.rows w p past)) (cases_lt p 32)
+  where
+    as_first : p < 32 → (u : ℕ) → u < 16 → cell_in names u p ≡ cell_in names 0 p
+    as_first k u n =
+        let inside : leb 32 p ≡ false = grind (arith, nat_tests) in
+        let full : eqb (count (has (group_at names.sharing 0 p)) 16) 16 ≡ true = sym (ap (λ b. b || eqb (count (has (group_at names.sharing 0 p)) 16) 16) inside) ∙ e in
+        let member = count_full (has (group_at names.sharing 0 p)) 16 (eqb-true _ _ full) u n in
+        eqb-true _ _ (and_parts (ltb u 16) _ (sym (names.shared 0 p (omega arith) k u) ∙ member)).1
+
+-- so all share it
+pub whole_shared : (names : Names) (p : ℕ) → is_whole_at names.sharing p ≡ true → AllShare (λ x y. eqb (cell_in names x p) (cell_in names y p))
+whole_shared names p e x y l m = eq-eqb _ _ (whole_cells names p e x y l m)
+
+-- and past the last all do
+pub past_whole : (sharing : List Group) (p : ℕ) → 32 ≤ p → is_whole_at sharing p ≡ true
+past_whole sharing p l = let e : leb 32 p ≡ true = grind (arith, nat_tests) in ap (λ b. b || eqb (count (has (group_at sharing 0 p)) 16) 16) e
+
+pub told : (b : Bool) → not b ≡ false → b ≡ true
+told true e = refl
+told false e = sym e

@@ -1,7 +1,8 @@
-// The table of names: which cell each variant has at each place.
-ghost use Rattle.std.specs.Prelude.{◌≡◌, ℕ, not, ◌&&◌, ◌+◌, ◌*◌, ◌/◌, ◌<◌, ◌≤◌, length, ◌==◌, false, true, nat_lt, if◌then◌else◌, slice_index_or};
+// The table of names: which cell each variant has at each place, and who shares it.
+ghost use Rattle.std.specs.Prelude.{◌≡◌, ℕ, not, ◌&&◌, ◌+◌, ◌*◌, ◌/◌, ◌<◌, ◌≤◌, length, ◌==◌, true, nat_lt, if◌then◌else◌, slice_index_or};
 ghost use Rattle.account.specs.Account.{ind, sum_below};
-ghost use Rattle.copies.specs.Rows.{Whole};
+ghost use Rattle.group.specs.Groups.{has};
+ghost use Rattle.copies.specs.Rows.{Shared, cell_at, group_at, is_whole_at};
 ghost use Rattle.copies.specs.Sharing.{copy_cells, move_cell};
 ghost use Rattle.copies.specs.Starts.{starting_cell};
 
@@ -20,10 +21,10 @@ pub(crate) const CELLS: u8 = 128;
 #[derive(Clone, Copy)]
 pub(crate) struct Names {
     rows: [u8; 512],
-    // the places at which variants may have different cells
-    parted: [bool; 32],
+    // beside each cell the group of all that have it at that place
+    sharing: [Group; 512],
     ghost inside: { (i : ℕ) → slice_index_or rows i 0 < 128 },
-    ghost whole: { (p : ℕ) → p < 32 → slice_index_or parted p false ≡ false → Whole rows p },
+    ghost shared: { (v p : ℕ) → v < 16 → p < 32 → Shared rows sharing v p },
 }
 
 // Where the name of v at the place p stands.
@@ -41,6 +42,66 @@ fn starting_rows() -> [u8; 512]
     array::from_fn(|i| (i / usize::from(VARIANTS)) as u8)
 }
 
+// All sixteen variants.
+fn everyone() -> Group
+    ensures { (w : ℕ) → has result w ≡ nat_lt w 16 }
+{
+    let mut all = Group::empty();
+    for v in 0..VARIANTS {
+        all = all.with(v);
+    }
+    all
+}
+
+// v has the cell c at the place p from now on.
+fn set(rows: &mut [u8; 512], v: u8, p: u8, c: u8)
+    requires variant { v < 16 }
+    requires place { p < 32 }
+    requires cell { c < 128 }
+    requires inside { (i : ℕ) → slice_index_or rows.old i 0 < 128 }
+    ensures cells { (w q : ℕ) → cell_at rows.new w q ≡ (if w == v && q == p then c else cell_at rows.old w q) }
+    ensures inside { (i : ℕ) → slice_index_or rows.new i 0 < 128 }
+{
+    rows[index(v, p)] = c;
+}
+
+// The group has the cell c at the place p from now on.
+fn fill_row(rows: &mut [u8; 512], group: Group, p: u8, c: u8)
+    requires place { p < 32 }
+    requires cell { c < 128 }
+    requires inside { (i : ℕ) → slice_index_or rows.old i 0 < 128 }
+    ensures cells { cell_at rows.new ≡ move_cell (cell_at rows.old) group p c }
+    ensures inside { (i : ℕ) → slice_index_or rows.new i 0 < 128 }
+{
+    let mut rest = group;
+    while let Some(v) = rest.least() {
+        set(rows, v, p, c);
+        rest = rest.without(v);
+    }
+}
+
+// The group beside a variant's cell once some have gone there: all that are there, if the variant is one of them, else those that have not gone.
+fn regrouped(old: Group, gone: Group, there: Group, v: u8) -> Group
+    ensures { (w : ℕ) → has result w ≡ (if has there v then has there w else has old w && not (has gone w)) }
+{
+    if there.has(v) {
+        there
+    } else {
+        old.difference(gone)
+    }
+}
+
+// At the place p those that are there share with one another from now on, and the others with none of those that have gone there.
+fn share_row(sharing: &mut [Group; 512], gone: Group, there: Group, p: u8)
+    requires { p < 32 }
+    ensures { (v q w : ℕ) → v < 16 → q < 32 → has (group_at sharing.new v q) w ≡ (if q == p then (if has there v then has there w else has (group_at sharing.old v q) w && not (has gone w)) else has (group_at sharing.old v q) w) }
+{
+    for v in 0..VARIANTS {
+        let i = index(v, p);
+        sharing[i] = regrouped(sharing[i], gone, there, v);
+    }
+}
+
 impl Names {
     ghost use Rattle.copies.specs.Names.{cell_in};
 
@@ -50,7 +111,7 @@ impl Names {
     {
         Names {
             rows: starting_rows(),
-            parted: [false; 32],
+            sharing: [everyone(); 512],
         }
     }
 
@@ -66,20 +127,56 @@ impl Names {
         }
     }
 
+    // Those that have the cell c at the place p.
+    fn holders(&self, p: u8, c: u8) -> Group
+        requires { p < 32 }
+        ensures { (w : ℕ) → has result w ≡ (nat_lt w 16 && cell_in self.now w p == c) }
+    {
+        for v in 0..VARIANTS {
+            if self.cell(v, p) == c {
+                return self.sharing[index(v, p)];
+            }
+        }
+        Group::empty()
+    }
+
+    // Those that have v's cell at the place p.
+    pub(crate) fn sharers(&self, v: u8, p: u8) -> Group
+        ensures { (w : ℕ) → has result w ≡ (nat_lt w 16 && cell_in self.now w p == cell_in self.now v p) }
+    {
+        if p >= PLACES {
+            everyone()
+        } else if v < VARIANTS {
+            self.sharing[index(v, p)]
+        } else {
+            self.holders(p, 0)
+        }
+    }
+
     // Where it tells so, all variants have one cell at the place p.
     pub(crate) fn is_whole(&self, p: u8) -> bool
         ensures whole { result ≡ true → (v w : ℕ) → v < 16 → w < 16 → cell_in self.now v p ≡ cell_in self.now w p }
-        ensures told { result ≡ not (slice_index_or self.now.parted p false) }
+        ensures told { result ≡ is_whole_at self.now.sharing p }
     {
-        p >= PLACES || !self.parted[usize::from(p)]
+        p >= PLACES || self.sharing[index(0, p)].size() == u32::from(VARIANTS)
     }
 
     // At how many places it does not tell so.
     pub(crate) fn parted_places(&self) -> u32
-        ensures value { result ≡ sum_below (λ p. ind (slice_index_or self.now.parted p false)) 32 }
+        ensures value { result ≡ sum_below (λ p. ind (not (is_whole_at self.now.sharing p))) 32 }
         ensures few { result ≤ 32 }
     {
         count(PLACES, |p| !self.is_whole(p))
+    }
+
+    // Where it tells so, the whole group has the cell c at the place p.
+    fn is_there(&self, group: Group, p: u8, c: u8) -> bool
+        ensures { result ≡ true → (w : ℕ) → has group w ≡ true → cell_in self.now w p ≡ c }
+    {
+        match group.least() {
+            Some(v) => self.cell(v, p) == c && group.difference(self.sharers(v, p)).is_empty(),
+            None => true,
+        }
     }
 
     // The child has its parent's cells.
@@ -88,21 +185,8 @@ impl Names {
     {
         if parent < VARIANTS && child < VARIANTS {
             for p in 0..PLACES {
-                self.set(child, p, self.cell(parent, p));
+                self.move_group(Group::single(child), p, self.cell(parent, p));
             }
-        }
-    }
-
-    // v has the cell c at the place p from now on.
-    fn set(&mut self, v: u8, p: u8, c: u8)
-        requires variant { v < 16 }
-        requires place { p < 32 }
-        requires cell { c < 128 }
-        ensures { (w q : ℕ) → cell_in self.new w q ≡ (if w == v && q == p then c else cell_in self.old w q) }
-    {
-        if self.rows[index(v, p)] != c {
-            self.rows[index(v, p)] = c;
-            self.parted[usize::from(p)] = true;
         }
     }
 
@@ -112,13 +196,11 @@ impl Names {
         requires cell { c < 128 }
         ensures { cell_in self.new ≡ move_cell (cell_in self.old) group p c }
     {
-        if self.is_whole(p) && self.cell(0, p) == c {
+        if self.is_there(group, p, c) {
             return;
         }
-        let mut rest = group;
-        while let Some(v) = rest.least() {
-            self.set(v, p, c);
-            rest = rest.without(v);
-        }
+        let there = self.holders(p, c).union(group);
+        fill_row(&mut self.rows, group, p, c);
+        share_row(&mut self.sharing, group, there, p);
     }
 }

@@ -4,9 +4,8 @@ ghost use Rattle.copies.specs.Cells.{cell_of};
 ghost use Rattle.copies.specs.Sharing.{crowded, sharers, shares};
 ghost use Rattle.copies.specs.Tests.{AllShare};
 
-use crate::below::{any_of, gather};
 use crate::store::Copies;
-use group::{Group, VARIANTS};
+use group::Group;
 
 impl Copies {
     // Where it tells so, all variants share the place p.
@@ -27,17 +26,13 @@ impl Copies {
     pub fn sharers(&self, among: Group, p: u8, v: u8) -> Group
         ensures { result ≡ sharers (cell_of self.now) among p v }
     {
-        if v < VARIANTS && self.is_whole(p) {
-            return among;
-        }
-        let cell = self.cell(v, p);
-        gather(among, |w| self.cell(w, p) == cell)
+        among.intersection(self.names.sharers(v, p))
     }
 
     // Whether a live variant outside the group has v's copy of the place p.
     pub fn is_crowded(&self, live: Group, group: Group, p: u8, v: u8) -> bool
         ensures { result ≡ crowded (cell_of self.now) live group p v }
     {
-        any_of(live.difference(group), |u| self.shares(u, v, p))
+        !self.sharers(live.difference(group), p, v).is_empty()
     }
 }
