@@ -1,10 +1,12 @@
 -- Where all share, those that are live are one group.
-use Rattle.std.proofs.Common.{◌≡◌, ℕ, zero, suc, ◌+◌, ◌*◌, ◌<◌, ◌≤◌, Bool, true, false, cond, not, eqb, leb, ltb, ◌&&◌, ◌||◌, List, sym, refl, ap, ◌∙◌, ⊎_elim, arith}
-use Rattle.std.proofs.lemmas.Bool.{and_parts, cases_Bool, cases_lt, eq-eqb, eqb-true, lt-ltb, or_parts}
+use Rattle.std.proofs.Common.{◌≡◌, ℕ, zero, suc, ◌+◌, ◌*◌, ◌<◌, ◌≤◌, Bool, true, false, cond, not, eqb, leb, ltb, ◌&&◌, ◌||◌, List, replicate, sym, refl, ap, ◌∙◌, ⊎_elim, arith}
+use Rattle.std.proofs.lemmas.Bool.{and_parts, cases_Bool, cases_eq, cases_lt, eq-eqb, eqb-true, lt-ltb, or_parts, or_right}
 use Rattle.std.proofs.lemmas.Bool.Decides.{nat_tests}
+use Rattle.std.proofs.lemmas.List.{get_or-replicate}
 use Rattle.std.proofs.lemmas.Nat.{mul-le}
 use Rattle.group.specs.declared.Group.{Group}
 use Rattle.group.specs.Groups.{count, gathered, has}
+use Rattle.group.proofs.Bits.{count_same}
 use Rattle.group.proofs.Members.{has_gathered}
 use Rattle.account.specs.Account.{any_below, ind, sum_below}
 use Rattle.account.specs.Groups.{leads}
@@ -12,7 +14,7 @@ use Rattle.account.proofs.Bounds.{any_from}
 use Rattle.account.proofs.Leaders.{least_in, sum_first}
 use Rattle.copies.specs.declared.names.Names.{Names}
 use Rattle.copies.specs.Names.{cell_in}
-use Rattle.copies.specs.Rows.{group_at, is_whole_at}
+use Rattle.copies.specs.Rows.{group_at, is_whole_at, parted_places}
 use Rattle.copies.specs.Sharing.{groups}
 use Rattle.copies.specs.Tests.{AllShare}
 use Rattle.copies.proofs.Leads.{few_counted, few_lead}
@@ -143,3 +145,61 @@ past_whole sharing p l = let e : leb 32 p ≡ true = grind (arith, nat_tests) in
 pub told : (b : Bool) → not b ≡ false → b ≡ true
 told true e = refl
 told false e = sym e
+
+few_of : (f : ℕ → Bool) (n : ℕ) → sum_below (λ p. ind (f p)) n ≤ n
+unfolding sum_below
+few_of f zero = omega arith
+few_of f (suc n) = let a = few_of f n in let b = ind_few (f n) in omega (arith, a, b)
+
+-- no more than all places are parted
+pub few_parted : (sharing : List Group) → parted_places sharing ≤ 32
+few_parted sharing = few_of (λ p. not (is_whole_at sharing p)) 32
+
+-- a sum of which one part is changed
+sum_at : (f g : ℕ → ℕ) (p n : ℕ) → p < n → ((q : ℕ) → q < n → (q ≡ p → ⊥) → f q ≡ g q) → sum_below f n + g p ≡ sum_below g n + f p
+unfolding sum_below
+sum_at f g p zero l h = absurd (omega (arith, l))
+sum_at f g p (suc n) l h = ⊎_elim
+    (λ (e : p ≡ n).
+    let a = sum_alike f g n (λ q m. h q (omega (arith, m)) (λ s. omega (arith, s, m, e))) in
+    let b = ap f e in
+    let d = ap g e in
+    omega (arith, a, b, d))
+    (λ (ne : p ≡ n → ⊥).
+    let a = sum_at f g p n (omega (arith, l, ne)) (λ q m. h q (omega (arith, m))) in
+    let b = h n (omega arith) (λ s. ne (sym s)) in
+    omega (arith, a, b)) (cases_eq p n)
+
+ind_not : (b : Bool) → ind (not b) + ind b ≡ 1
+ind_not true = refl
+ind_not false = refl
+
+-- the count of parted places once the groups of one place are changed
+pub parted_recounted : (sharing beside : List Group) (p parted : ℕ) → p < 32 → parted ≡ parted_places sharing → ((q : ℕ) → q < 32 → (q ≡ p → ⊥) → (w : ℕ) → has (group_at beside 0 q) w ≡ has (group_at sharing 0 q) w) → parted + ind (is_whole_at sharing p) ≡ parted_places beside + ind (is_whole_at beside p)
+parted_recounted sharing beside p parted l held same =
+    let a = sum_at (λ q. ind (not (is_whole_at beside q))) (λ q. ind (not (is_whole_at sharing q))) p 32 l (λ q m ne. ap (λ n. ind (not (leb 32 q || eqb n 16))) (count_same (has (group_at beside 0 q)) (has (group_at sharing 0 q)) 16 (λ w _. same q m ne w))) in
+    let b = ind_not (is_whole_at sharing p) in
+    let d = ind_not (is_whole_at beside p) in
+    omega (arith, a, b, d, held)
+
+count_all : (f : ℕ → Bool) (n : ℕ) → ((w : ℕ) → w < n → f w ≡ true) → count f n ≡ n
+unfolding count
+count_all f zero h = refl
+count_all f (suc n) h =
+    let a = count_all f n (λ w l. h w (omega (arith, l))) in
+    let b : ◌≡◌ {A = ℕ} (cond (f n) 1 0) 1 = ap (λ b. cond b 1 0) (h n (omega arith)) in
+    omega (arith, a, b)
+
+sum_of_none : (f : ℕ → ℕ) (n : ℕ) → ((q : ℕ) → q < n → f q ≡ 0) → sum_below f n ≡ 0
+unfolding sum_below
+sum_of_none f zero h = refl
+sum_of_none f (suc n) h = let a = sum_of_none f n (λ q l. h q (omega (arith, l))) in let b = h n (omega arith) in omega (arith, a, b)
+
+-- as a study begins, none is parted
+pub begun_whole : (all : Group) → ((w : ℕ) → has all w ≡ ltb w 16) → 0 ≡ parted_places (replicate 512 all)
+begun_whole all is = sym (sum_of_none (λ p. ind (not (is_whole_at (replicate 512 all) p))) 32 (λ p l. ap (λ b. ind (not b)) (whole p l)))
+  where
+    whole : (p : ℕ) → p < 32 → is_whole_at (replicate 512 all) p ≡ true
+    whole p l =
+        let full = ap (λ g. count (has g) 16) (get_or-replicate 512 (p * 16 + 0) all (record { mask = 0 }) (omega (arith, l))) ∙ count_all (has all) 16 (λ w m. is w ∙ lt-ltb w 16 m) in
+        or_right (leb 32 p) (eqb (count (has (group_at (replicate 512 all) 0 p)) 16) 16) (eq-eqb _ _ full)

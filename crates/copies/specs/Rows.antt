@@ -1,5 +1,6 @@
 -- Rows of cells: one row of 16 for each place, one cell for each variant, and beside each cell the group of all that have it there.
-use Rattle.std.specs.Prelude.{◌≡◌, ℕ, ◌+◌, ◌*◌, Bool, ◌&&◌, ◌||◌, ◌==◌, List, nat_le, nat_lt, slice_index_or, if◌then◌else◌}
+use Rattle.std.specs.Prelude.{◌≡◌, ℕ, ◌+◌, ◌*◌, Bool, ◌&&◌, ◌||◌, ◌==◌, List, nat_le, nat_lt, not, slice_index_or, if◌then◌else◌}
+use Rattle.account.specs.Account.{ind, sum_below}
 use Rattle.group.specs.declared.Group.{Group}
 use Rattle.group.specs.Groups.{count, has, none}
 
@@ -18,3 +19,7 @@ Shared rows sharing v p = (w : ℕ) → has (group_at sharing v p) w ≡ (nat_lt
 -- the group of variant 0 at p has all sixteen; past the last place all have one cell
 abbrev pub is_whole_at : List Group → ℕ → Bool
 is_whole_at sharing p = nat_le 32 p || count (has (group_at sharing 0 p)) 16 == 16
+
+-- how many places are not whole
+abbrev pub parted_places : List Group → ℕ
+parted_places sharing = sum_below (λ p. ind (not (is_whole_at sharing p))) 32

@@ -1,12 +1,10 @@
 // The table of names: which cell each variant has at each place, and who shares it.
 ghost use Rattle.std.specs.Prelude.{◌≡◌, ℕ, not, ◌&&◌, ◌+◌, ◌*◌, ◌/◌, ◌<◌, ◌≤◌, length, ◌==◌, true, nat_lt, if◌then◌else◌, slice_index_or};
-ghost use Rattle.account.specs.Account.{ind, sum_below};
 ghost use Rattle.group.specs.Groups.{has};
-ghost use Rattle.copies.specs.Rows.{Shared, cell_at, group_at, is_whole_at};
+ghost use Rattle.copies.specs.Rows.{Shared, cell_at, group_at, is_whole_at, parted_places};
 ghost use Rattle.copies.specs.Sharing.{copy_cells, move_cell};
 ghost use Rattle.copies.specs.Starts.{starting_cell};
 
-use crate::below::count;
 use group::{Group, VARIANTS};
 use std::array;
 
@@ -23,8 +21,11 @@ pub(crate) struct Names {
     rows: [u8; 512],
     // beside each cell the group of all that have it at that place
     sharing: [Group; 512],
+    // how many places are not whole
+    parted: u32,
     ghost inside: { (i : ℕ) → slice_index_or rows i 0 < 128 },
     ghost shared: { (v p : ℕ) → v < 16 → p < 32 → Shared rows sharing v p },
+    ghost counted: { parted ≡ parted_places sharing },
 }
 
 // Where the name of v at the place p stands.
@@ -102,6 +103,13 @@ fn share_row(sharing: &mut [Group; 512], gone: Group, there: Group, p: u8)
     }
 }
 
+// Whether all sixteen share the place p, as they do past the last place.
+fn all_share(sharing: &[Group; 512], p: u8) -> bool
+    ensures { result ≡ is_whole_at sharing.now p }
+{
+    p >= PLACES || sharing[index(0, p)].size() == u32::from(VARIANTS)
+}
+
 impl Names {
     ghost use Rattle.copies.specs.Names.{cell_in};
 
@@ -112,6 +120,7 @@ impl Names {
         Names {
             rows: starting_rows(),
             sharing: [everyone(); 512],
+            parted: 0,
         }
     }
 
@@ -158,15 +167,15 @@ impl Names {
         ensures whole { result ≡ true → (v w : ℕ) → v < 16 → w < 16 → cell_in self.now v p ≡ cell_in self.now w p }
         ensures told { result ≡ is_whole_at self.now.sharing p }
     {
-        p >= PLACES || self.sharing[index(0, p)].size() == u32::from(VARIANTS)
+        all_share(&self.sharing, p)
     }
 
     // At how many places it does not tell so.
     pub(crate) fn parted_places(&self) -> u32
-        ensures value { result ≡ sum_below (λ p. ind (not (is_whole_at self.now.sharing p))) 32 }
+        ensures value { result ≡ parted_places self.now.sharing }
         ensures few { result ≤ 32 }
     {
-        count(PLACES, |p| !self.is_whole(p))
+        self.parted
     }
 
     // Where it tells so, the whole group has the cell c at the place p.
@@ -200,7 +209,10 @@ impl Names {
             return;
         }
         let there = self.holders(p, c).union(group);
+        let was_whole = all_share(&self.sharing, p);
         fill_row(&mut self.rows, group, p, c);
         share_row(&mut self.sharing, group, there, p);
+        let is_whole = all_share(&self.sharing, p);
+        self.parted = self.parted + u32::from(was_whole) - u32::from(is_whole);
     }
 }

@@ -1,7 +1,7 @@
--- Each place that is not whole is counted.
-use Rattle.std.proofs.Common.{ℕ, not, rules}
-use Rattle.copies.specs.Rows.{is_whole_at}
+-- No more are parted than there are.
+use Rattle.std.proofs.Common.{arith}
+use Rattle.copies.proofs.Wholes.{few_parted}
 use Rattle.copies.proofs.names.Names.parted_places.Goals as goal
 
-pub returns-clause-value : goal.returns-clause-value
-returns-clause-value c = c.count.ensures.value (λ (p : ℕ). not (is_whole_at c.args.self.now.sharing p)) (λ p r t. search rules)
+pub returns-clause-few : goal.returns-clause-few
+returns-clause-few c = let a = few_parted c.args.self.now.sharing in omega (arith, a, c.args.self.now.counted)
