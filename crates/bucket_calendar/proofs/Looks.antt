@@ -12,7 +12,7 @@ use Rattle.slot.specs.Rank.{ranked}
 use Rattle.slot.specs.declared.Slot.{Slot}
 use Rattle.slot.specs.Slots.{key_of_slot, earlier, bare, in_order}
 use Rattle.slot.proofs.Picks.{first_rest}
-use Rattle.slot.proofs.Puts.{likewise}
+use Rattle.slot.specs.Passes.{likewise}
 use Rattle.slot.proofs.Looks.{alike_front, none_sooner}
 use Rattle.slot.proofs.Holds.{looks}
 use Rattle.bucket_calendar.specs.Buckets.{bucket_of, of_bucket, row_of}

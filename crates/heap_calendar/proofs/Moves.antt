@@ -1,6 +1,7 @@
 -- Entries on their way in a heap, and the slots that they name.
 use Rattle.std.proofs.Common.{◌≡◌, ℕ, zero, suc, ◌+◌, ◌-◌, ◌*◌, ◌/◌, ◌<◌, ◌≤◌, Bool, true, false, List, [], ◌∷◌, length, get_or, set, sym, refl, ap, ◌∙◌, subst, arith}
 use Rattle.std.specs.List.{AllByRecursion, filter_map, cons_option, slice_get}
+use Rattle.std.specs.Prelude.{IfSome}
 use Rattle.heap_calendar.specs.Totals.{standing}
 use Rattle.std.specs.List.Sorted.{IsPermutation}
 use Rattle.std.proofs.ByRecursion.{All-get_or}
@@ -82,6 +83,10 @@ pub standing_fits : (taken : Bool) (pool : List Slot) (es : List Entry) → AllB
 standing_fits true pool [] h = tt
 standing_fits true pool (e ∷ es) h = h.1
 standing_fits false pool es h = h
+
+pub first_fits : (pool : List Slot) (es : List Entry) → AllByRecursion (Fits pool) es → IfSome (slice_get es 0) (Fits pool)
+first_fits pool [] h = tt
+first_fits pool (e ∷ es) h = h.0
 
 slot_got : (pool : List Slot) (n : ℕ) (l : List Slot) → n < length pool → cons_option (slice_get pool n) l ≡ get_or pool n blank ∷ l
 slot_got [] n l h = absurd (let z : ⊥ = omega arith in z)

@@ -1,12 +1,13 @@
 -- The order of slots by time, receiver and sender first.
-use Rattle.std.proofs.Common.{◌≡◌, ℕ, Bool, true, false, ◌&&◌, ◌||◌, List, ltb, eqb, sym, refl, ◌∙◌, ⊎_elim, arith}
+use Rattle.std.proofs.Common.{◌≡◌, ℕ, Bool, true, false, ◌&&◌, ◌||◌, List, ltb, eqb, sym, refl, ap, ◌∙◌, ⊎_elim, arith}
 use Rattle.std.proofs.lemmas.Bool.{cases_Bool, eqb-true}
 use Rattle.std.proofs.lemmas.Bool.Decides.{nat_tests}
 use Rattle.heap_calendar.specs.declared.entry.Entry.{Entry}
 use Rattle.heap_calendar.specs.Entries.{Fits, slot_of}
+use Rattle.event.specs.declared.Key.{Key}
 use Rattle.event.specs.Keys.{before, same}
 use Rattle.slot.specs.declared.Slot.{Slot}
-use Rattle.slot.specs.Slots.{earlier}
+use Rattle.slot.specs.Slots.{key_of_slot, earlier}
 
 -- three tests in turn, and what follows
 by_first : (l e b s r : Bool) → e ≡ false → ((l || (e && b)) || ((e && s) && r)) ≡ l
@@ -60,3 +61,14 @@ module _ (pool : List Slot) (a b : Entry) (p : Fits pool a) (q : Fits pool b) wh
       ∙ sym (by_sender (slot_of pool a) (slot_of pool b) ((λ i. ltb (p.is i).time (q.is i).time) ∙ w.0) ((λ i. eqb (p.is i).time (q.is i).time) ∙ w.1)
       ((λ i. ltb (p.is i).receiver (q.is i).receiver) ∙ v.0) ((λ i. eqb (p.is i).receiver (q.is i).receiver) ∙ v.1)
       ((λ i. eqb (p.is i).sender (q.is i).sender) ∙ differ a.sender b.sender n))
+
+-- an entry of another time, receiver or sender names a slot with another key
+module _ (pool : List Slot) (e : Entry) (p : Fits pool e) (k : Key) where
+  pub other_time : (e.time ≡ k.time → ⊥) → k ≡ key_of_slot (slot_of pool e) → ⊥
+  other_time n q = n (sym (ap (λ k. k.time) q ∙ ap (λ e. e.time) p.is))
+
+  pub other_receiver : (e.receiver ≡ k.receiver → ⊥) → k ≡ key_of_slot (slot_of pool e) → ⊥
+  other_receiver n q = n (sym (ap (λ k. k.receiver) q ∙ ap (λ e. e.receiver) p.is))
+
+  pub other_sender : (e.sender ≡ k.sender → ⊥) → k ≡ key_of_slot (slot_of pool e) → ⊥
+  other_sender n q = n (sym (ap (λ k. k.sender) q ∙ ap (λ e. e.sender) p.is))

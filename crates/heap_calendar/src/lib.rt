@@ -3,6 +3,7 @@
 
 pub mod calendar_impl;
 mod entry;
+mod heads;
 mod pick;
 mod queue;
 mod root;

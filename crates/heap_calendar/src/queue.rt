@@ -16,6 +16,7 @@ ghost use Rattle.heap_calendar.specs.Entries.{Kept, slots};
 ghost use Rattle.slot.specs.declared.Slot.{Slot};
 
 use crate::entry::Entry;
+use crate::heads::alike;
 use crate::pick::nth;
 use crate::root::{below_child, first, live, put_in, root, second, settle};
 use crate::store::CAPACITY;
@@ -125,16 +126,18 @@ impl Queue {
     {
         let pool = self.pool.as_slice();
         let all = self.order.as_slice();
-        let first = first(pool, all, self.taken)?;
-        let key = first.held.key();
-        let alike = |s: &Slot| key == s.held.key();
+        let first = first(pool, all, self.taken)?.slot(pool);
         match i {
             0 => Some(first.held),
-            1 => second(pool, all, self.taken)
-                .filter(|s| alike(s))
-                .map(|s| s.held),
-            2 if !self.taken => below_child(pool, all).filter(|s| alike(s)).map(|s| s.held),
-            _ => nth(pool, live(all, self.taken), alike, i).map(|s| s.held),
+            1 => alike(pool, second(pool, all, self.taken), first).map(|s| s.held),
+            2 if !self.taken => alike(pool, below_child(pool, all), first).map(|s| s.held),
+            _ => nth(
+                pool,
+                live(all, self.taken),
+                |s| first.held.key() == s.held.key(),
+                i,
+            )
+            .map(|s| s.held),
         }
     }
 

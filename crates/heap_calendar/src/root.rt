@@ -1,19 +1,18 @@
 // A heap of entries whose root may have been taken: how slots go in and out, and which come first.
-ghost use Rattle.std.specs.Prelude.{◌≡◌, ℕ, ◌+◌, ◌<◌, ◌≤◌, Bool, true, false, ◌∷◌, length, vec_capacity, vec_items, vec_len};
+ghost use Rattle.std.specs.Prelude.{◌≡◌, ℕ, ◌+◌, ◌<◌, ◌≤◌, Bool, true, false, ◌∷◌, length, vec_capacity, vec_items, vec_len, IfSome};
 ghost use Rattle.std.specs.List.{AllByRecursion, slice_get};
-ghost use Rattle.std.specs.Option.{option_copied};
+ghost use Rattle.std.specs.Option.{option_copied, option_map};
 ghost use Rattle.std.specs.List.Sorted.{IsPermutation};
 ghost use Rattle.std.specs.BinaryHeap.{IsHeap, KeepsHeap};
 ghost use Rattle.event.specs.Lists.{rest};
 ghost use Rattle.slot.specs.Rank.{ranked};
 ghost use Rattle.slot.specs.Slots.{earlier, turned};
-ghost use Rattle.heap_calendar.specs.Entries.{Fits, Kept, slots, named, same_number};
+ghost use Rattle.heap_calendar.specs.Entries.{Fits, Kept, slot_of, slots, named, same_number};
 ghost use Rattle.heap_calendar.specs.Totals.{standing};
 
 use crate::entry::Entry;
 use crate::sift::{earlier_child, replace_root, rise};
 use slot::Slot;
-use slot::order::comes_before;
 
 // All but a root that was taken.
 pub(crate) fn live(all: &[Entry], taken: bool) -> &[Entry]
@@ -122,23 +121,25 @@ fn drop_root(pool: &[Slot], order: &mut Vec<Entry>, free: &mut Vec<u16>)
 }
 
 // The first in order.
-pub(crate) fn first<'a>(pool: &'a [Slot], all: &[Entry], taken: bool) -> Option<&'a Slot>
+pub(crate) fn first(pool: &[Slot], all: &[Entry], taken: bool) -> Option<Entry>
     requires heap { IsHeap turned (slots pool.now all.now) }
     requires fit { AllByRecursion (Fits pool.now) all.now }
-    ensures { option_copied result ≡ slice_get (ranked earlier (standing taken (slots pool.now all.now))) 0 }
+    ensures fit { IfSome result (Fits pool.now) }
+    ensures slot { option_map (slot_of pool.now) result ≡ slice_get (ranked earlier (standing taken (slots pool.now all.now))) 0 }
 {
     if taken {
         below_root(pool, all)
     } else {
-        root(pool, all)
+        all.first().copied()
     }
 }
 
 // The second in order.
-pub(crate) fn second<'a>(pool: &'a [Slot], all: &[Entry], taken: bool) -> Option<&'a Slot>
+pub(crate) fn second(pool: &[Slot], all: &[Entry], taken: bool) -> Option<Entry>
     requires heap { IsHeap turned (slots pool.now all.now) }
     requires fit { AllByRecursion (Fits pool.now) all.now }
-    ensures { option_copied result ≡ slice_get (ranked earlier (standing taken (slots pool.now all.now))) 1 }
+    ensures fit { IfSome result (Fits pool.now) }
+    ensures slot { option_map (slot_of pool.now) result ≡ slice_get (ranked earlier (standing taken (slots pool.now all.now))) 1 }
 {
     if taken {
         below_child(pool, all)
@@ -158,33 +159,35 @@ pub(crate) fn root<'a>(pool: &'a [Slot], all: &[Entry]) -> Option<&'a Slot>
 }
 
 // The first but the root: its earlier child.
-fn below_root<'a>(pool: &'a [Slot], all: &[Entry]) -> Option<&'a Slot>
+fn below_root(pool: &[Slot], all: &[Entry]) -> Option<Entry>
     requires heap { IsHeap turned (slots pool.now all.now) }
     requires fit { AllByRecursion (Fits pool.now) all.now }
-    ensures { option_copied result ≡ slice_get (ranked earlier (slots pool.now all.now)) 1 }
+    ensures fit { IfSome result (Fits pool.now) }
+    ensures slot { option_map (slot_of pool.now) result ≡ slice_get (ranked earlier (slots pool.now all.now)) 1 }
 {
     if all.len() < 2 {
         return None;
     }
-    Some(all[earlier_child(pool, all, 0)].slot(pool))
+    Some(all[earlier_child(pool, all, 0)])
 }
 
 // The first but the root and its earlier child: the other child, or a child of the earlier one.
-pub(crate) fn below_child<'a>(pool: &'a [Slot], all: &[Entry]) -> Option<&'a Slot>
+pub(crate) fn below_child(pool: &[Slot], all: &[Entry]) -> Option<Entry>
     requires heap { IsHeap turned (slots pool.now all.now) }
     requires fit { AllByRecursion (Fits pool.now) all.now }
-    ensures { option_copied result ≡ slice_get (ranked earlier (slots pool.now all.now)) 2 }
+    ensures fit { IfSome result (Fits pool.now) }
+    ensures slot { option_map (slot_of pool.now) result ≡ slice_get (ranked earlier (slots pool.now all.now)) 2 }
 {
     if all.len() < 3 {
         return None;
     }
     let child = earlier_child(pool, all, 0);
-    let other = all[3 - child].slot(pool);
+    let other = all[3 - child];
     if 2 * child + 1 >= all.len() {
         return Some(other);
     }
-    let next = all[earlier_child(pool, all, child)].slot(pool);
-    if comes_before(next, other) {
+    let next = all[earlier_child(pool, all, child)];
+    if next.precedes(&other, pool) {
         return Some(next);
     }
     Some(other)

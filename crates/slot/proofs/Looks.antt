@@ -13,7 +13,7 @@ use Rattle.slot.specs.declared.Slot.{Slot}
 use Rattle.slot.specs.Slots.{key_of_slot, earlier, bare, in_order}
 use Rattle.slot.specs.Laws.{strictly, not_before}
 use Rattle.slot.proofs.Picks.{never_self}
-use Rattle.slot.proofs.Puts.{likewise}
+use Rattle.slot.specs.Passes.{likewise}
 use Rattle.slot.proofs.Holds.{looks}
 use Rattle.slot.proofs.Ranks.{ranked_rising}
 

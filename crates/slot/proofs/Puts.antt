@@ -1,11 +1,9 @@
 -- The first and the second of those with the smallest key.
-use Rattle.std.proofs.Common.{◌≡◌, ℕ, zero, suc, ◌<◌, Bool, true, false, cond, List, [], ◌∷◌, length, get_or, Some, None, filter, Option, sym, refl, ap, ◌∙◌, ⊎_elim, arith}
+use Rattle.std.proofs.Common.{◌≡◌, ℕ, zero, suc, ◌<◌, Bool, true, false, cond, List, [], ◌∷◌, length, get_or, Some, filter, sym, refl, ap, ◌∙◌, ⊎_elim, arith}
 use Rattle.std.specs.List.{AllByRecursion}
 use Rattle.std.specs.Option.{option_map}
-use Rattle.std.specs.Bool.{then_some}
 use Rattle.std.proofs.lemmas.Bool.{cases_Bool}
 use Rattle.calendar.specs.declared.Held.{Held}
-use Rattle.event.specs.declared.Key.{Key}
 use Rattle.event.proofs.Orders.{same_refl}
 use Rattle.event.specs.Lists.{first as head}
 use Rattle.event.specs.Keys.{same}
@@ -14,7 +12,7 @@ use Rattle.calendar.specs.Calls.{key_of_held, leading}
 use Rattle.slot.specs.Rank.{ranked, Strict}
 use Rattle.slot.proofs.Ranks.{all_ranked}
 use Rattle.slot.specs.declared.Slot.{Slot}
-use Rattle.slot.specs.Slots.{key_of_slot, earlier, bare, bares, in_order}
+use Rattle.slot.specs.Slots.{earlier, bare, bares, in_order}
 use Rattle.slot.proofs.Picks.{sooner, head_ins}
 
 -- what comes before no other is the first
@@ -36,11 +34,6 @@ kept_front x l = ap (λ b. cond b (x ∷ filter (λ z. same (key_of_held x) (key
 
 pub look_first : (xs : List Slot) (x : Slot) (l : List Slot) → ranked earlier xs ≡ x ∷ l → option_map bare (Some x) ≡ slice_get (leading (in_order xs)) 0
 look_first xs x l e = sym (ap (λ t. slice_get t 0) (ap (λ r. leading (bares r)) e ∙ kept_front (bare x) (bares l)))
-
--- s, if it has the key k
-abbrev pub likewise : Key → Option Slot → Option Slot
-likewise k None = None
-likewise k (Some s) = then_some (same k (key_of_slot s)) s
 
 pub at_one : {X : Type 0} (l : List X) (x : X) → slice_get (x ∷ l) 1 ≡ head l
 at_one [] x = refl

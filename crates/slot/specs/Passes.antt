@@ -1,9 +1,12 @@
 -- What a closure gives, and which slots a choice means.
 use Rattle.std.specs.Prelude.{◌≡◌, Bool, true, ◌&&◌, Some, None, Option}
+use Rattle.std.specs.Bool.{then_some}
+use Rattle.event.specs.declared.Key.{Key}
+use Rattle.event.specs.Keys.{same}
 use Rattle.slot.specs.declared.Slot.{Slot}
 use Rattle.std.specs.Borrow.{Bor}
 use Rattle.std.specs.Fn.{Shared}
-use Rattle.slot.specs.Slots.{earlier}
+use Rattle.slot.specs.Slots.{earlier, key_of_slot}
 
 -- each call of f, at a reference, gives what g makes of the value there
 abbrev pub Gives : {F X Y : Type 0} → Shared F (Bor X × Unit {0}) Y → F → (X → Y) → Type 0
@@ -17,3 +20,8 @@ beyond (Some a) s = earlier a s
 -- s passes the test, and comes after a
 abbrev pub admits : (Slot → Bool) → Option Slot → Slot → Bool
 admits p a s = p s && beyond a s
+
+-- s, if it has the key k
+abbrev pub likewise : Key → Option Slot → Option Slot
+likewise k None = None
+likewise k (Some s) = then_some (same k (key_of_slot s)) s

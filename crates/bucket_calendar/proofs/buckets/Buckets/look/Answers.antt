@@ -8,7 +8,8 @@ use Rattle.event.specs.Lists.{rest}
 use Rattle.calendar.specs.Calls.{leading}
 use Rattle.slot.specs.Rank.{ranked}
 use Rattle.slot.specs.Slots.{earlier, key_of_slot, bare, in_order}
-use Rattle.slot.proofs.Puts.{likewise, look_first}
+use Rattle.slot.specs.Passes.{likewise}
+use Rattle.slot.proofs.Puts.{look_first}
 use Rattle.slot.proofs.Picks.{first_rest}
 use Rattle.bucket_calendar.specs.Buckets.{bucket_of, row_of}
 use Rattle.bucket_calendar.proofs.Looks.{look_near}

@@ -1,5 +1,5 @@
 -- The first, the second, the third, or a search.
-use Rattle.std.proofs.Common.{◌≡◌, true, false, filter, sym, ap, ◌∙◌, subst, rules}
+use Rattle.std.proofs.Common.{◌≡◌, true, false, Some, filter, sym, ap, ◌∙◌, subst, rules}
 use Rattle.std.specs.Option.{option_map, option_copied}
 use Rattle.event.specs.Keys.{same}
 use Rattle.event.specs.Lists.{rest}
@@ -9,10 +9,10 @@ use Rattle.slot.specs.declared.Slot.{Slot}
 use Rattle.slot.specs.Rank.{ranked}
 use Rattle.slot.specs.Slots.{earlier, key_of_slot, bare, in_order, steady}
 use Rattle.slot.proofs.Holds.{looks}
-use Rattle.slot.proofs.Puts.{likewise, look_first}
+use Rattle.slot.proofs.Puts.{look_first}
 use Rattle.slot.proofs.Looks.{look_at}
 use Rattle.heap_calendar.specs.Totals.{standing}
-use Rattle.heap_calendar.specs.Entries.{slots}
+use Rattle.heap_calendar.specs.Entries.{slots, slot_of}
 use Rattle.heap_calendar.proofs.Moves.{standing_slots}
 use Rattle.heap_calendar.proofs.Steps.{first_is, none_looked}
 use Rattle.heap_calendar.proofs.queue.Queue.look.Goals as goal
@@ -23,7 +23,7 @@ returns-in_err-first c =
     let xs = slots s.pool.items s.order.items in
     let l = standing s.taken xs in
     let at : slots c.as_slice-pool.result.now c.as_slice-all.result.now ≡ xs = λ i. slots (c.as_slice-pool.ensures.value i) (c.as_slice-all.ensures.value i) in
-    let none = c.in_err-first.ensures ∙ (λ i. slice_get (ranked earlier (standing s.taken (at i))) 0) in
+    let none = c.in_err-first.ensures.slot ∙ (λ i. slice_get (ranked earlier (standing s.taken (at i))) 0) in
     rw (← c.self.view_is) (c.from_residual.ensures ∙ none_looked l c.args.i none)
 
 pub returns-in-0 : goal.returns-in-0
@@ -32,8 +32,8 @@ returns-in-0 c =
     let xs = slots s.pool.items s.order.items in
     let l = standing s.taken xs in
     let at : slots c.as_slice-pool.result.now c.as_slice-all.result.now ≡ xs = λ i. slots (c.as_slice-pool.ensures.value i) (c.as_slice-all.ensures.value i) in
-    let x = c.in_ok-first.first.now in
-    let f = first_is (ranked earlier l) x (c.in_ok-first.ensures ∙ (λ i. slice_get (ranked earlier (standing s.taken (at i))) 0)) in
+    let x = c.slot-first.result.now in
+    let f = first_is (ranked earlier l) x (ap Some c.slot-first.ensures ∙ c.in_ok-first.ensures.slot ∙ (λ i. slice_get (ranked earlier (standing s.taken (at i))) 0)) in
     rw (← c.self.view_is) (look_first l x (rest (ranked earlier l)) f ∙ ap (slice_get (leading (in_order l))) (sym c.in-0.is))
 
 pub returns-in-1 : goal.returns-in-1
@@ -43,12 +43,11 @@ returns-in-1 c =
     let xs = slots s.pool.items s.order.items in
     let l = standing s.taken xs in
     let at : slots c.as_slice-pool.result.now c.as_slice-all.result.now ≡ xs = λ i. slots (c.as_slice-pool.ensures.value i) (c.as_slice-all.ensures.value i) in
-    let x = c.in_ok-first.first.now in
-    let f = first_is (ranked earlier l) x (c.in_ok-first.ensures ∙ (λ i. slice_get (ranked earlier (standing s.taken (at i))) 0)) in
-    let told : c.map.result ≡ option_map bare (option_copied c.filter.result) = search rules in
-    let kept : option_copied c.filter.result ≡ likewise (key_of_slot x) (option_copied c.second.result) = search rules in
-    let second = c.second.ensures ∙ (λ i. slice_get (ranked earlier (standing s.taken (at i))) 1) in
-    rw (← c.self.view_is) (told ∙ ap (option_map bare) kept ∙ look_at l x (rest (ranked earlier l)) 1 (option_copied c.second.result) f second ∙ ap (slice_get (leading (in_order l))) (sym c.in-1.is))
+    let x = c.slot-first.result.now in
+    let f = first_is (ranked earlier l) x (ap Some c.slot-first.ensures ∙ c.in_ok-first.ensures.slot ∙ (λ i. slice_get (ranked earlier (standing s.taken (at i))) 0)) in
+    let told : c.map.result ≡ option_map bare (option_copied c.alike.result) = search rules in
+    let second = c.second.ensures.slot ∙ (λ i. slice_get (ranked earlier (standing s.taken (at i))) 1) in
+    rw (← c.self.view_is) (told ∙ ap (option_map bare) c.alike.ensures ∙ look_at l x (rest (ranked earlier l)) 1 (option_map (slot_of c.as_slice-pool.result.now) c.second.result) f second ∙ ap (slice_get (leading (in_order l))) (sym c.in-1.is))
 
 pub returns-in-2 : goal.returns-in-2
 unfolding same
@@ -57,13 +56,12 @@ returns-in-2 c =
     let xs = slots s.pool.items s.order.items in
     let l = standing s.taken xs in
     let at : slots c.as_slice-pool.result.now c.as_slice-all.result.now ≡ xs = λ i. slots (c.as_slice-pool.ensures.value i) (c.as_slice-all.ensures.value i) in
-    let x = c.in_ok-first.first.now in
-    let f = first_is (ranked earlier l) x (c.in_ok-first.ensures ∙ (λ i. slice_get (ranked earlier (standing s.taken (at i))) 0)) in
+    let x = c.slot-first.result.now in
+    let f = first_is (ranked earlier l) x (ap Some c.slot-first.ensures ∙ c.in_ok-first.ensures.slot ∙ (λ i. slice_get (ranked earlier (standing s.taken (at i))) 0)) in
     let stands : s.taken ≡ false = c.if-not-self.true in
-    let told : c.map-in-2.result ≡ option_map bare (option_copied c.filter-in-2.result) = search rules in
-    let kept : option_copied c.filter-in-2.result ≡ likewise (key_of_slot x) (option_copied c.below_child.result) = search rules in
-    let third = c.below_child.ensures ∙ (λ i. slice_get (ranked earlier (at i)) 2) ∙ sym (λ i. slice_get (ranked earlier (standing (stands i) xs)) 2) in
-    rw (← c.self.view_is) (told ∙ ap (option_map bare) kept ∙ look_at l x (rest (ranked earlier l)) 2 (option_copied c.below_child.result) f third ∙ ap (slice_get (leading (in_order l))) (sym c.in-2.is))
+    let told : c.map-in-2.result ≡ option_map bare (option_copied c.alike-in-2.result) = search rules in
+    let third = c.below_child.ensures.slot ∙ (λ i. slice_get (ranked earlier (at i)) 2) ∙ sym (λ i. slice_get (ranked earlier (standing (stands i) xs)) 2) in
+    rw (← c.self.view_is) (told ∙ ap (option_map bare) c.alike-in-2.ensures ∙ look_at l x (rest (ranked earlier l)) 2 (option_map (slot_of c.as_slice-pool.result.now) c.below_child.result) f third ∙ ap (slice_get (leading (in_order l))) (sym c.in-2.is))
 
 pub returns-in_default : goal.returns-in_default
 unfolding same
@@ -72,8 +70,8 @@ returns-in_default c =
     let xs = slots s.pool.items s.order.items in
     let l = standing s.taken xs in
     let at : slots c.as_slice-pool.result.now c.as_slice-all.result.now ≡ xs = λ i. slots (c.as_slice-pool.ensures.value i) (c.as_slice-all.ensures.value i) in
-    let x = c.in_ok-first.first.now in
-    let f = first_is (ranked earlier l) x (c.in_ok-first.ensures ∙ (λ i. slice_get (ranked earlier (standing s.taken (at i))) 0)) in
+    let x = c.slot-first.result.now in
+    let f = first_is (ranked earlier l) x (ap Some c.slot-first.ensures ∙ c.in_ok-first.ensures.slot ∙ (λ i. slice_get (ranked earlier (standing s.taken (at i))) 0)) in
     let e = (λ i. slots (c.as_slice-pool.ensures.value i) ((c.live.ensures ∙ ap (standing s.taken) c.as_slice-all.ensures.value) i)) ∙ sym (standing_slots s.taken s.pool.items s.order.items) in
     let told : c.map-in_default.result ≡ option_map bare c.nth.result = search rules in
     let found = c.nth.ensures (λ (s : Slot). same (key_of_slot x) (key_of_slot s)) (search rules) (subst (λ l. steady (ranked earlier l) ≡ true) (sym e) c.self.invariant.2.apart) in
