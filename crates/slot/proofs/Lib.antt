@@ -4,3 +4,4 @@ pub mod Nths
 pub mod Holds
 pub mod Puts
 pub mod Looks
+pub mod Fronts

@@ -1,5 +1,5 @@
 -- What a closure gives, and which slots a choice means.
-use Rattle.std.specs.Prelude.{◌≡◌, Bool, true, ◌&&◌, Some, None, Option}
+use Rattle.std.specs.Prelude.{◌≡◌, Bool, true, ◌&&◌, List, [], ◌∷◌, filter, Some, None, Option}
 use Rattle.std.specs.Bool.{then_some}
 use Rattle.event.specs.declared.Key.{Key}
 use Rattle.event.specs.Keys.{same}
@@ -25,3 +25,8 @@ admits p a s = p s && beyond a s
 abbrev pub likewise : Key → Option Slot → Option Slot
 likewise k None = None
 likewise k (Some s) = then_some (same k (key_of_slot s)) s
+
+-- those with the key of the first
+abbrev pub leading_slots : List Slot → List Slot
+leading_slots [] = []
+leading_slots (x ∷ xs) = filter (λ y. same (key_of_slot x) (key_of_slot y)) (x ∷ xs)
