@@ -1,5 +1,5 @@
 // Held messages in a pool of slots in no order, linked by buckets, with the first beside it.
-ghost use Rattle.std.specs.Prelude.{◌≡◌, ◌+◌, ◌<◌, ◌≤◌, [], ◌∷◌, List, length, map, Some, vec_len, vec_capacity, IfOk};
+ghost use Rattle.std.specs.Prelude.{◌≡◌, ◌+◌, ◌<◌, ◌≤◌, [], ◌∷◌, List, length, map, take, Some, vec_len, vec_capacity, IfOk};
 ghost use Rattle.std.specs.Coded.{codes};
 ghost use Rattle.std.specs.List.{slice_get};
 ghost use Rattle.event.specs.Lists.{insert, first, rest};
@@ -129,6 +129,14 @@ impl Buckets {
         } else {
             None
         }
+    }
+
+    // Those with the smallest key, in order, as far as there is room for them.
+    pub(crate) fn heads(&self, out: &mut Vec<Held>)
+        ensures heads { out.new.items ≡ take (vec_capacity out.old) (leading self.now.held) }
+        ensures room { vec_capacity out.new ≡ vec_capacity out.old }
+    {
+        self.chains.heads(&self.pool, self.first, out);
     }
 
     // Number i, from 0, of those that wait for v.

@@ -22,6 +22,10 @@ impl Calendar for BucketCalendar {
         self.buckets.look(i)
     }
 
+    fn heads(&self, out: &mut Vec<Held>) {
+        self.buckets.heads(out);
+    }
+
     fn take(&mut self) -> Option<Held> {
         self.buckets.pop()
     }

@@ -1,16 +1,18 @@
 // The slots of each bucket, linked through the pool in order.
-ghost use Rattle.std.specs.Prelude.{true, false, [], ◌≡◌, ◌+◌, ◌/◌, ◌%◌, ℕ, List, ◌∷◌, ◌≤◌, ◌<◌, length, Some, ◌≢◌, take, slice_index_or, None};
+ghost use Rattle.std.specs.Prelude.{true, false, [], ◌≡◌, ◌+◌, ◌/◌, ◌%◌, ℕ, List, ◌∷◌, ◌≤◌, ◌<◌, length, Some, ◌≢◌, take, slice_index_or, vec_capacity, None};
 ghost use Rattle.std.specs.List.{AllByRecursion, slice_get, swap_remove};
 ghost use Rattle.event.specs.Lists.{first};
+ghost use Rattle.calendar.specs.Calls.{leading};
 ghost use Rattle.slot.specs.declared.Slot.{Slot};
 ghost use Rattle.slot.specs.Rank.{ranked};
-ghost use Rattle.slot.specs.Slots.{earlier};
+ghost use Rattle.slot.specs.Slots.{earlier, in_order};
 ghost use Rattle.bucket_calendar.specs.Buckets.{bucket_of, row_of};
 ghost use Rattle.bucket_calendar.specs.Chains.{Runs, at, slot_at, Chain, Linked};
 ghost use Rattle.bucket_calendar.specs.Cuts.{Cut, LeadsTo};
 ghost use Rattle.bucket_calendar.specs.Hints.{Near, Begins};
 
 use crate::store::CAPACITY;
+use calendar::Held;
 use slot::Slot;
 use slot::order::comes_before;
 
@@ -187,6 +189,32 @@ impl Chains {
         ensures { result ≡ slice_get (row_of b pool.now) i }
     {
         slot_at(pool, nth_place(&self.next, self.heads[b], i))
+    }
+
+    // Those with the key of the first of all slots, which are the front of its bucket, in order, as far as there is room.
+    pub(crate) fn heads(&self, pool: &[Slot], known: Option<Slot>, out: &mut Vec<Held>)
+        requires linked { Linked self.now.heads self.now.next pool.now }
+        requires few { length pool.now ≤ 512 }
+        requires known { known ≡ first (ranked earlier pool.now) }
+        ensures heads { out.new.items ≡ take (vec_capacity out.old) (leading (in_order pool.now)) }
+        ensures room { vec_capacity out.new ≡ vec_capacity out.old }
+    {
+        out.clear();
+        let Some(least) = known else {
+            return;
+        };
+        let mut here = self.heads[bucket(&least)];
+        for _ in 0..out.capacity() {
+            let Some(place) = here else {
+                return;
+            };
+            let slot = &pool[place as usize];
+            if least.held.key() != slot.held.key() {
+                return;
+            }
+            out.push_reserved(slot.held);
+            here = self.next[place as usize];
+        }
     }
 
     // Where a walk for s may begin: at another place than `but` whose slot comes before s in its bucket, if a hint tells one, and else at the head.

@@ -3,7 +3,7 @@
 
 pub mod fault;
 
-ghost use Rattle.std.specs.Prelude.{◌≡◌, List, length, if◌then◌else◌, Ok, Err};
+ghost use Rattle.std.specs.Prelude.{◌≡◌, List, length, take, vec_capacity, if◌then◌else◌, Ok, Err};
 ghost use Rattle.std.specs.List.{slice_get};
 ghost use Rattle.event.specs.Lists.{first, rest};
 ghost use Rattle.calendar.specs.declared.Held.{Held};
@@ -82,6 +82,11 @@ pub trait Calendar {
     // Message i, from 0, of those with the smallest key.
     fn look(&self, i: usize) -> Option<Held>
         ensures { result ≡ slice_get (leading (meaning self.now).held) i };
+
+    // Those with the smallest key, in order, as far as there is room for them.
+    fn heads(&self, out: &mut Vec<Held>)
+        ensures heads { out.new.items ≡ take (vec_capacity out.old) (leading (meaning self.now).held) }
+        ensures room { vec_capacity out.new ≡ vec_capacity out.old };
 
     // Tells and removes the first.
     fn take(&mut self) -> Option<Held>

@@ -24,6 +24,10 @@ impl Calendar for HeapCalendar {
         self.queue.look(i)
     }
 
+    fn heads(&self, out: &mut Vec<Held>) {
+        self.queue.heads(out);
+    }
+
     fn take(&mut self) -> Option<Held> {
         self.queue.pop()
     }

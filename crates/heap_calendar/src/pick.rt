@@ -20,7 +20,7 @@ fn find(pool: &[Slot], e: &Entry) -> Option<Slot>
 }
 
 // The first of those that pass the test and come after `after`.
-fn first_after<F: Fn(&Slot) -> bool>(
+pub(crate) fn first_after<F: Fn(&Slot) -> bool>(
     pool: &[Slot],
     all: &[Entry],
     test: F,

@@ -1,5 +1,5 @@
 // Held messages in a binary heap of slots, by key and then older put first.
-ghost use Rattle.std.specs.Prelude.{◌≡◌, ◌+◌, ◌<◌, ◌≤◌, true, [], List, length, Option, vec_capacity, vec_items, vec_len, IfOk};
+ghost use Rattle.std.specs.Prelude.{◌≡◌, ◌+◌, ◌<◌, ◌≤◌, true, [], List, length, take, Option, vec_capacity, vec_items, vec_len, IfOk};
 ghost use Rattle.std.specs.Coded.{codes};
 ghost use Rattle.std.specs.List.{filter_map, slice_get};
 ghost use Rattle.event.specs.Lists.{insert, first, rest, Sorted};
@@ -16,7 +16,7 @@ ghost use Rattle.heap_calendar.specs.Entries.{Kept, slots};
 ghost use Rattle.slot.specs.declared.Slot.{Slot};
 
 use crate::entry::Entry;
-use crate::heads::alike;
+use crate::heads::{alike, find_heads};
 use crate::pick::nth;
 use crate::root::{below_child, first, live, put_in, root, second, settle};
 use crate::store::CAPACITY;
@@ -139,6 +139,14 @@ impl Queue {
             )
             .map(|s| s.held),
         }
+    }
+
+    // Those with the smallest key, in order, as far as there is room for them.
+    pub(crate) fn heads(&self, out: &mut Vec<Held>)
+        ensures heads { out.new.items ≡ take (vec_capacity out.old) (leading self.now.held) }
+        ensures room { vec_capacity out.new ≡ vec_capacity out.old }
+    {
+        find_heads(&self.pool, &self.order, self.taken, out);
     }
 
     // Number i, from 0, of those that wait for v.

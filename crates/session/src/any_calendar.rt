@@ -47,6 +47,13 @@ impl Calendar for AnyCalendar {
         }
     }
 
+    fn heads(&self, out: &mut Vec<Held>) {
+        match self {
+            AnyCalendar::Heap(calendar) => calendar.heads(out),
+            AnyCalendar::Buckets(calendar) => calendar.heads(out),
+        }
+    }
+
     fn take(&mut self) -> Option<Held> {
         match self {
             AnyCalendar::Heap(calendar) => calendar.take(),

@@ -10,6 +10,9 @@ returns-in_err-entry-in-Entry-clause-keeps g c = reads_on g.C.Calendar.meaning g
 pub returns-in_err-place-in-Place-clause-keeps : goal.returns-in_err-place-in-Place-clause-keeps
 returns-in_err-place-in-Place-clause-keeps g c = reads_on g.C.Calendar.meaning g.M.Model.meaning c.args.study.now c.args.permits.now.items _ c.args.call.now _ c.in-Place.is refl refl (λ a. refl)
 
+pub returns-in_ok-place-in-Place-clause-keeps : goal.returns-in_ok-place-in-Place-clause-keeps
+returns-in_ok-place-in-Place-clause-keeps g c = reads_on g.C.Calendar.meaning g.M.Model.meaning c.args.study.now c.args.permits.now.items _ c.args.call.now _ c.in-Place.is refl refl (λ a. refl)
+
 pub returns-in_err-shares-in-Shares-clause-keeps : goal.returns-in_err-shares-in-Shares-clause-keeps
 returns-in_err-shares-in-Shares-clause-keeps g c = reads_on g.C.Calendar.meaning g.M.Model.meaning c.args.study.now c.args.permits.now.items _ c.args.call.now _ c.in-Shares.is refl refl (λ a. refl)
 
