@@ -1,5 +1,5 @@
 // The messages that a step runs.
-ghost use Rattle.std.specs.Prelude.{◌≡◌, ◌≤◌, take, vec_capacity};
+ghost use Rattle.std.specs.Prelude.{◌≡◌, take, vec_capacity};
 ghost use Rattle.calendar.specs.Calls.{leading};
 
 use calendar::{Calendar, Held};
@@ -9,15 +9,9 @@ pub(crate) const HEADS: usize = 16;
 
 // The messages with the smallest key.
 pub(crate) fn find_heads<C: Calendar>(calendar: &C, heads: &mut Vec<Held>)
-    requires { 16 ≤ vec_capacity heads.old }
+    requires { vec_capacity heads.old ≡ 16 }
     ensures heads { heads.new.items ≡ take 16 (leading (C.meaning calendar.now).held) }
     ensures room { vec_capacity heads.new ≡ vec_capacity heads.old }
 {
-    heads.clear();
-    for i in 0..HEADS {
-        let Some(head) = calendar.look(i) else {
-            return;
-        };
-        heads.push_reserved(head);
-    }
+    calendar.heads(heads);
 }

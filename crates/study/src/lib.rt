@@ -15,7 +15,7 @@ mod reading;
 mod register;
 mod stepping;
 
-ghost use Rattle.std.specs.Prelude.{◌≤◌, vec_capacity};
+ghost use Rattle.std.specs.Prelude.{◌≡◌, vec_capacity};
 
 use calendar::Held;
 use copies::Copies;
@@ -32,5 +32,5 @@ pub struct Study<C, M> {
     journal: Journal,
     // the messages that a step runs; they are for one variant or more each, so there are sixteen at most
     heads: Vec<Held>,
-    ghost roomy: { 16 ≤ vec_capacity heads },
+    ghost roomy: { vec_capacity heads ≡ 16 },
 }
