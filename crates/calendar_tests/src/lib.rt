@@ -45,6 +45,22 @@ mod tests {
         assert_eq!(rt; calendar.count(), 0);
     }
 
+    // What leads, in order, as far as there is room.
+    fn leads<C: Calendar>(
+        rt: &impl Abort,
+        heap: Global,
+        calendar: &C,
+        room: usize,
+        all: &[Held],
+    ) -> Result<(), Fail> {
+        let mut out = Vec::with_capacity(heap, room)?;
+        calendar.heads(&mut out);
+        assert_eq!(rt; out.as_slice(), all);
+        calendar.heads(&mut out);
+        assert_eq!(rt; out.as_slice(), all);
+        Ok(())
+    }
+
     // Ties come in the sequence of their puts, and times a round of all buckets apart in that of their times.
     fn order<C: Calendar>(rt: &impl Abort, calendar: &mut C) {
         puts(
@@ -74,6 +90,33 @@ mod tests {
             held(4101, 0, 0),
         ];
         gives(rt, calendar, &all);
+    }
+
+    // Six of one key lead, then those that are left of them as they are taken, and then the next key.
+    fn heads<C: Calendar>(rt: &impl Abort, heap: Global, calendar: &mut C) -> Result<(), Fail> {
+        let alike = [
+            held(5, 0, 0),
+            held(5, 1, 1),
+            held(5, 2, 0),
+            held(5, 3, 2),
+            held(5, 4, 3),
+            held(5, 5, 1),
+        ];
+        calendar.empty();
+        leads(rt, heap, calendar, 16, &[])?;
+        puts(rt, calendar, &alike);
+        assert_eq!(rt; calendar.put(held(4101, 6, 0)), Ok(()));
+        for room in 0..7 {
+            leads(rt, heap, calendar, room, &alike[..room.min(6)])?;
+        }
+        for taken in 0..6 {
+            leads(rt, heap, calendar, 16, &alike[taken..])?;
+            assert_eq!(rt; calendar.take(), Some(alike[taken]));
+        }
+        leads(rt, heap, calendar, 16, &[held(4101, 6, 0)])?;
+        leads(rt, heap, calendar, 0, &[])?;
+        gives(rt, calendar, &[held(4101, 6, 0)]);
+        leads(rt, heap, calendar, 16, &[])
     }
 
     // A variant joins and another leaves; 15 is a variant, 16 is none.
@@ -110,16 +153,18 @@ mod tests {
         gives(rt, calendar, &[]);
     }
 
-    fn table<C: Calendar>(rt: &impl Abort, calendar: &mut C) {
+    fn table<C: Calendar>(rt: &impl Abort, heap: Global, calendar: &mut C) -> Result<(), Fail> {
         order(rt, calendar);
+        heads(rt, heap, calendar)?;
         groups(rt, calendar);
         fullness(rt, calendar);
+        Ok(())
     }
 
     #[test]
     fn both_answer_as_the_rules_say(rt: HostRuntime) -> Result<(), Fail> {
-        table(&rt, &mut HeapCalendar::new(rt.alloc())?);
-        table(&rt, &mut BucketCalendar::new(rt.alloc())?);
+        table(&rt, rt.alloc(), &mut HeapCalendar::new(rt.alloc())?)?;
+        table(&rt, rt.alloc(), &mut BucketCalendar::new(rt.alloc())?)?;
         Ok(())
     }
 
@@ -185,6 +230,7 @@ mod tests {
         rt: &impl Abort,
         calendar: &mut C,
         plain: &mut Plain,
+        out: &mut Vec<Held>,
         x: u32,
     ) -> Result<(), Fail> {
         let v = (x / 16 % 18) as u8;
@@ -206,6 +252,12 @@ mod tests {
                 calendar.erase(v);
                 plain.erase(v);
             }
+            15 => {
+                calendar.heads(out);
+                for i in 0..out.capacity() {
+                    assert_eq!(rt; out.get(i).copied(), plain.look(i));
+                }
+            }
             _ => {}
         }
         assert_eq!(rt; calendar.count(), plain.all.len());
@@ -216,10 +268,11 @@ mod tests {
         let mut plain = Plain {
             all: Vec::new(heap),
         };
+        let mut out = Vec::with_capacity(heap, 4)?;
         let mut x = 1;
         for _ in 0..10_000 {
             x = draw(x);
-            call(rt, calendar, &mut plain, x)?;
+            call(rt, calendar, &mut plain, &mut out, x)?;
         }
         gives(rt, calendar, plain.all.as_slice());
         Ok(())
