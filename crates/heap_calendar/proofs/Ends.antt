@@ -11,7 +11,7 @@ use Rattle.event.specs.Lists.{rest}
 use Rattle.slot.specs.declared.Slot.{Slot}
 use Rattle.slot.specs.Slots.{turned}
 use Rattle.heap_calendar.specs.Sifts.{Mends, Lifts}
-use Rattle.heap_calendar.proofs.Sifts.{turned_total}
+use Rattle.slot.specs.Laws.{turned_total}
 
 -- what is written through a slice is the whole
 pub whole : {X : Type 0} (n : ℕ) (xs ys : List X) → n ≡ length xs → length ys ≡ length xs → take n (ys ++ drop (length ys) xs) ≡ ys

@@ -15,7 +15,8 @@ use Rattle.slot.specs.Slots.{earlier, turned}
 use Rattle.heap_calendar.specs.declared.entry.Entry.{Entry}
 use Rattle.heap_calendar.specs.Entries.{blank, slot_of, slots, Fits, no_entry}
 use Rattle.heap_calendar.specs.Sifts.{IsEarlierChild, Lifts}
-use Rattle.heap_calendar.proofs.Sifts.{turned_total, rises, falls, compared}
+use Rattle.slot.specs.Laws.{turned_total}
+use Rattle.heap_calendar.proofs.Sifts.{rises, falls, compared}
 
 pub many : (pool : List Slot) (es : List Entry) → length (slots pool es) ≡ length es
 many pool es = length-map es (slot_of pool)

@@ -1,7 +1,6 @@
 -- A slot on its way in a heap leaves a hole, which is read as if the slot were there.
 use Rattle.std.proofs.Common.{◌≡◌, ℕ, ◌+◌, ◌-◌, ◌*◌, ◌/◌, ◌<◌, ◌≤◌, Bool, true, false, ◌⊎◌, List, length, get_or, set, inl, inr, sym, ap, ◌∙◌, subst, arith}
 use Rattle.std.specs.List.{swap}
-use Rattle.std.specs.Cmp.{IsTotalOrder, back_total}
 use Rattle.std.specs.BinaryHeap.Sift.{IsGreaterChild, ComparesAt}
 use Rattle.std_alloc.proofs.HeapSift as sifts
 use Rattle.std_alloc.proofs.vec.Slotted.{hole_moves}
@@ -10,7 +9,7 @@ use Rattle.std.proofs.lemmas.List.{get_or_default as any-default}
 use Rattle.std.proofs.lemmas.List.{get_or-set_same, get_or-set_other, length-set}
 use Rattle.slot.specs.declared.Slot.{Slot}
 use Rattle.slot.specs.Slots.{earlier, turned}
-use Rattle.slot.specs.Laws.{strictly, is_earlier, slot_total}
+use Rattle.slot.specs.Laws.{strictly, is_earlier, turned_total}
 use Rattle.slot.proofs.Picks.{never_self}
 use Rattle.heap_calendar.specs.Sifts.{IsEarlierChild}
 use Rattle.heap_calendar.specs.Entries.{blank}
@@ -53,9 +52,6 @@ one_of k c e a b d = grind arith
 
 pub other_of : (k c e : ℕ) → c ≤ k → k ≤ e → e ≡ c + 1 → (k ≡ c) ⊎ (k ≡ e)
 other_of k c e a b d = grind arith
-
-pub turned_total : IsTotalOrder turned
-turned_total = back_total slot_total
 
 -- a turn upwards
 pub rises : (xs all : List Slot) (start at : ℕ) (x : Slot) → 0 < at → at ≤ start → at < length all → earlier x (get_or all ((at - 1) / 2) blank) ≡ true

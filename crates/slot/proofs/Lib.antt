@@ -5,3 +5,4 @@ pub mod Holds
 pub mod Puts
 pub mod Looks
 pub mod Fronts
+pub mod Cases

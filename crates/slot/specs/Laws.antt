@@ -1,7 +1,7 @@
 -- The order of slots is strict and total, and how it goes with the order of keys.
 use Rattle.std.proofs.Common.{◌≡◌, ℕ, ◌<◌, Bool, true, false, if◌then◌else◌, ◌&&◌, ◌||◌, ◌==◌, nat_lt, sym, refl, ap, ◌∙◌, subst, ⊎_elim, arith, Ordering, Less, Equal, Greater}
 use Rattle.std.specs.Prelude.{◌==◌}
-use Rattle.std.specs.Cmp.{IsTotalOrder, both_ways as one_test, tied_itself, tied_then, unsigned_tied, on_total, then_total, nat_cmp_total}
+use Rattle.std.specs.Cmp.{IsTotalOrder, both_ways as one_test, tied_itself, tied_then, unsigned_tied, on_total, then_total, nat_cmp_total, back_total}
 use Rattle.std.specs.Ordering.{is_lt, is_eq, eq_by_cmp, nat_cmp, max_by_ordering}
 use Rattle.std.proofs.lemmas.Bool.{cases_Bool, both_ways, and_parts, eqb-true, lt-ltb}
 use Rattle.std.proofs.lemmas.Bool.Decides.{nat_tests}
@@ -19,6 +19,10 @@ slot_total =
     (then_total (on_total (λ x. x.age) nat_cmp_total)
     (then_total (on_total (λ x. x.held.message.kind) nat_cmp_total)
     (then_total (on_total (λ x. x.held.message.«data») nat_cmp_total) (on_total (λ x. x.held.group.mask) nat_cmp_total))))
+
+-- the order in which the earlier is the greater is total
+pub turned_total : IsTotalOrder turned
+turned_total = back_total slot_total
 
 -- what `<` answers of ranks
 pub is_earlier : (x y : Slot) → is_lt (slot_cmp x y) ≡ earlier x y
@@ -104,10 +108,10 @@ greater_is x y = by_answer (slot_cmp y x) (from_tied y x) ∙ ap (λ t. if t the
     by_answer Greater h = refl
 
 -- keys in order decide, equal keys leave it to what follows
-by_first : (k l : Key) (r : Bool) → before k l ≡ true → by_key k l r ≡ true
+pub by_first : (k l : Key) (r : Bool) → before k l ≡ true → by_key k l r ≡ true
 by_first k l r h = ap (λ b. b || (same k l && r)) h
 
-by_same : (k l : Key) (r : Bool) → k ≡ l → by_key k l r ≡ r
+pub by_same : (k l : Key) (r : Bool) → k ≡ l → by_key k l r ≡ r
 by_same k l r e =
     ap (λ b. b || (same k l && r)) (subst (λ m. before k m ≡ false) e (never k)) ∙ ap (λ b. b && r) (same_from k l e)
 

@@ -1,8 +1,8 @@
 // The order of slots: by key, and then the older put first.
 ghost use Rattle.std.specs.Prelude.{◌≡◌, Some, refl};
-ghost use Rattle.std.specs.Cmp.{partial_order_from_agreeing_total, back_total};
+ghost use Rattle.std.specs.Cmp.{partial_order_from_agreeing_total};
 ghost use Rattle.slot.specs.Slots.{earlier, turned, rank_of};
-ghost use Rattle.slot.specs.Laws.{slot_total, turned_ties};
+ghost use Rattle.slot.specs.Laws.{turned_total, turned_ties};
 
 use crate::Slot;
 use event::Key;
@@ -43,7 +43,7 @@ pub fn comes_before(a: &Slot, b: &Slot) -> bool
 impl PartialOrd for Slot {
     ghost partial_cmp = { λ x y. Some (turned x y) };
 
-    ghost laws = { partial_order_from_agreeing_total turned (back_total slot_total) (λ _ _. refl) turned_ties };
+    ghost laws = { partial_order_from_agreeing_total turned turned_total (λ _ _. refl) turned_ties };
 
     fn partial_cmp(&self, other: &Slot) -> Option<Ordering> {
         Some(self.cmp(other))
@@ -54,7 +54,7 @@ impl PartialOrd for Slot {
 impl Ord for Slot {
     ghost cmp = { turned };
 
-    ghost total = { back_total slot_total };
+    ghost total = { turned_total };
 
     ghost matches_partial_cmp = { λ _ _. refl };
 

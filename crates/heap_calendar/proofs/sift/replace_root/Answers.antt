@@ -7,7 +7,7 @@ use Rattle.std.specs.BinaryHeap.Sift.{RestoresHeap}
 use Rattle.std_alloc.proofs.HeapSift as sifts
 use Rattle.slot.specs.Slots.{turned}
 use Rattle.heap_calendar.specs.Entries.{Fits, slots, slot_of, no_entry}
-use Rattle.heap_calendar.proofs.Sifts.{turned_total}
+use Rattle.slot.specs.Laws.{turned_total}
 use Rattle.heap_calendar.proofs.Moves.{many, shuffles, fit_beside, down_once}
 use Rattle.heap_calendar.proofs.sift.replace_root.Goals as goal
 

@@ -6,7 +6,7 @@ use Rattle.std.proofs.lemmas.List.Sorted.{IsPermutation-refl, IsPermutation-tran
 use Rattle.std_alloc.proofs.HeapSift as sifts
 use Rattle.slot.specs.Slots.{turned}
 use Rattle.heap_calendar.specs.Entries.{Fits, no_entry}
-use Rattle.heap_calendar.proofs.Sifts.{turned_total}
+use Rattle.slot.specs.Laws.{turned_total}
 use Rattle.heap_calendar.proofs.Moves.{shuffles, fit_beside, fit_here, up_once, rests}
 use Rattle.heap_calendar.proofs.sift.rise.Goals as goal
 use Rattle.heap_calendar.proofs.sift.rise.Goals.{then-loop-at-test+else-precedes, else-loop-at-test}

@@ -5,7 +5,7 @@ use Rattle.std.specs.List.Sorted.{IsPermutation}
 use Rattle.std_alloc.proofs.HeapSift as sifts
 use Rattle.slot.specs.Slots.{turned}
 use Rattle.heap_calendar.specs.Entries.{Fits, slots}
-use Rattle.heap_calendar.proofs.Sifts.{turned_total}
+use Rattle.slot.specs.Laws.{turned_total}
 use Rattle.heap_calendar.proofs.sift.rise.Given as goal
 
 abbrev pub invariant-loop-at : goal.invariant-loop-at
