@@ -1,10 +1,10 @@
 -- Entries, free slots and the pool, under a put and a drop of the root.
-use Rattle.std.proofs.Common.{◌≡◌, ℕ, ◌+◌, ◌<◌, ◌≤◌, List, [], ◌∷◌, ◌++◌, length, get_or, set, sym, refl, ap, ◌∙◌, ⊎_elim, arith}
+use Rattle.std.proofs.Common.{◌≡◌, ℕ, ◌+◌, ◌<◌, ◌≤◌, List, [], ◌∷◌, ◌++◌, length, get_or, set, sym, refl, ap, ◌∙◌, subst, ⊎_elim, arith}
 use Rattle.std.specs.List.{AllByRecursion, sum_by}
 use Rattle.std.specs.List.Sorted.{IsPermutation}
 use Rattle.std.proofs.ByRecursion.{all_shuffled, All-append}
 use Rattle.std.proofs.lemmas.Bool.Decides.{nat_tests}
-use Rattle.std.proofs.lemmas.List.{get_or-set_same, get_or-set_other, length-set, length-append}
+use Rattle.std.proofs.lemmas.List.{get_or-set_same, get_or-set_other, get_or_append_left, length-set, length-append}
 use Rattle.std.proofs.lemmas.List.Sorted.{sum_by-IsPermutation}
 use Rattle.std.proofs.lemmas.List.Sums.{sum_by-cons}
 use Rattle.std_alloc.proofs.Permutation.{as_long, which}
@@ -95,10 +95,10 @@ same_named es fs k p = sym (summed fs k) ∙ sum_by-IsPermutation (λ e. same_nu
 -- after a put for the root
 pub kept_put : (pool pool' : List Slot) (es es' : List Entry) (free : List ℕ) → length pool' ≡ length pool → length es' ≡ length es → AllByRecursion (Fits pool') es' → ((k : ℕ) → named k es' ≡ named k es) → Kept pool es free → Kept pool' es' free
 kept_put pool pool' es es' free w l f n k = record {
-  wide = w ∙ k.wide;
+  few = omega (arith, w, k.few);
   fit = f;
-  below = k.below;
-  count = ap (λ m. m + length free) l ∙ k.count;
+  below = subst (λ m. AllByRecursion (λ n. n < m) free) (sym w) k.below;
+  count = omega (arith, l, w, k.count);
   once = λ j. let a = n j in let b = k.once j in omega arith;
 }
 
@@ -106,30 +106,70 @@ kept_put pool pool' es es' free w l f n k = record {
 pub kept_end : (pool pool' : List Slot) (es es' : List Entry) (u : List ℕ) (at : ℕ) → length pool' ≡ length pool → length es' ≡ length es + 1 → AllByRecursion (Fits pool') es' → ((k : ℕ) → named k es' ≡ same_number at k + named k es)
     → Kept pool es (u ++ at ∷ []) → Kept pool' es' u
 kept_end pool pool' es es' u at w l f n k = record {
-  wide = w ∙ k.wide;
+  few = omega (arith, w, k.few);
   fit = f;
-  below = all_front u (at ∷ []) k.below;
-  count = omega (arith, l, k.count, length-append u (at ∷ []));
+  below = subst (λ m. AllByRecursion (λ n. n < m) u) (sym w) (all_front (length pool) u (at ∷ []) k.below);
+  count = omega (arith, l, w, k.count, length-append u (at ∷ []));
   once = λ j. let a = n j in let b = k.once j in let c = end_listed u at j in omega arith;
 }
   where
-    all_front : (u v : List ℕ) → AllByRecursion (λ n. n < 512) (u ++ v) → AllByRecursion (λ n. n < 512) u
-    all_front [] v a = tt
-    all_front (x ∷ u) v a = (a.0, all_front u v a.1)
+    all_front : (m : ℕ) (u v : List ℕ) → AllByRecursion (λ n. n < m) (u ++ v) → AllByRecursion (λ n. n < m) u
+    all_front m [] v a = tt
+    all_front m (x ∷ u) v a = (a.0, all_front m u v a.1)
 
--- the last of the free ones is one of 512, and no entry names it
+-- the last of the free ones stands in the pool, and no entry names it
 pub free_last : (pool : List Slot) (es : List Entry) (u : List ℕ) (at : ℕ) → Kept pool es (u ++ at ∷ []) → (at < length pool) × (named at es ≡ 0)
 free_last pool es u at k =
     let one : same_number at at ≡ 1 = one_is at at refl in
     let a = k.once at in
     let b = end_listed u at at in
-    let w = k.wide in
-    let low : at < 512 = last_of u k.below in
-    (omega arith, omega arith)
+    (last_of u k.below, omega arith)
   where
-    last_of : (u : List ℕ) → AllByRecursion (λ n. n < 512) (u ++ at ∷ []) → at < 512
+    last_of : (u : List ℕ) → AllByRecursion (λ n. n < length pool) (u ++ at ∷ []) → at < length pool
     last_of [] h = h.0
     last_of (x ∷ u) h = last_of u h.1
+
+other_is : (a k : ℕ) → (a ≡ k → ⊥) → same_number a k ≡ 0
+other_is a k h = grind (arith, nat_tests)
+
+-- one more slot in the pool, which no entry names
+module _ (pool : List Slot) (s : Slot) where
+  same_before : (e : Entry) → e.at < length pool → slot_of (pool ++ s ∷ []) e ≡ slot_of pool e
+  same_before e h = get_or_append_left pool (s ∷ []) blank e.at h
+
+  pub fits_more : (es : List Entry) → AllByRecursion (Fits pool) es → AllByRecursion (Fits (pool ++ s ∷ [])) es
+  fits_more [] a = tt
+  fits_more (e ∷ es) a =
+      let w = a.0.within in
+      (record { within = omega (arith, length-append pool (s ∷ [])); is = ap (λ x. entry_of x e.at) (same_before e w) ∙ a.0.is }, fits_more es a.1)
+
+  pub slots_more : (es : List Entry) → AllByRecursion (Fits pool) es → slots (pool ++ s ∷ []) es ≡ slots pool es
+  slots_more [] a = refl
+  slots_more (e ∷ es) a = λ i. same_before e a.0.within i ∷ slots_more es a.1 i
+
+pub none_names : (pool : List Slot) (es : List Entry) → AllByRecursion (Fits pool) es → named (length pool) es ≡ 0
+none_names pool [] a = refl
+none_names pool (e ∷ es) a =
+    let w = a.0.within in
+    let n : same_number e.at (length pool) ≡ 0 = other_is e.at (length pool) (λ h. let z : ⊥ = omega arith in z) in
+    let m = none_names pool es a.1 in
+    let z : same_number e.at (length pool) + named (length pool) es ≡ 0 = omega arith in z
+
+-- after a put to one more slot, where none is free
+pub kept_more : (pool pool' : List Slot) (es es' : List Entry) → length pool' ≡ length pool + 1 → length es' ≡ length es + 1 → length es < 512 → AllByRecursion (Fits pool') es' → ((k : ℕ) → named k es' ≡ same_number (length pool) k + named k es)
+    → Kept pool es [] → Kept pool' es' []
+kept_more pool pool' es es' w l low f n k = record {
+  few = let c = k.count in omega (arith, w, low);
+  fit = f;
+  below = tt;
+  count = let c = k.count in omega (arith, w, l);
+  once = λ j.
+      let a = n j in
+      let b : named j es + 0 ≤ 1 = k.once j in
+      let z : named j es' + 0 ≤ 1 =
+      ⊎_elim (λ (t : length pool ≡ j). let one = one_is (length pool) j t in let none : named j es ≡ 0 = subst (λ m. named m es ≡ 0) t (none_names pool es k.fit) in omega arith)
+      (λ (t : length pool ≡ j → ⊥). let none = other_is (length pool) j t in omega arith) (which (length pool) j) in z;
+}
 
 all_ends : (P : Entry → Type 0) (u : List Entry) (z : Entry) → AllByRecursion P (u ++ z ∷ []) → AllByRecursion P u × P z
 all_ends P [] z h = (tt, h.0)
@@ -144,12 +184,10 @@ pub kept_drop : (pool : List Slot) (u es' : List Entry) (z : Entry) (free : List
 kept_drop pool [] es' z free h p k = absurd (let y : ⊥ = omega arith in y)
 kept_drop pool (x ∷ u) es' z free h p k =
     let l = as_long (z ∷ u) es' p in
-    let b = k.fit.0.within in
-    let w = k.wide in
     record {
-      wide = k.wide;
+      few = k.few;
       fit = all_shuffled (Fits pool) (z ∷ u) es' p (front_fits pool (x ∷ u) z k.fit);
-      below = All-append (λ n. n < 512) free (x.at ∷ []) k.below ((let y : x.at < 512 = omega arith in y), tt);
+      below = All-append (λ n. n < length pool) free (x.at ∷ []) k.below (k.fit.0.within, tt);
       count = omega (arith, l, k.count, length-append free (x.at ∷ []), length-append u (z ∷ []));
       once = λ j.
           let a : named j es' ≡ same_number z.at j + named j u = same_named (z ∷ u) es' j p in
@@ -160,36 +198,17 @@ kept_drop pool (x ∷ u) es' z free h p k =
     }
 
 pub kept_last : (pool : List Slot) (z : Entry) (free : List ℕ) → Kept pool (z ∷ []) free → Kept pool [] (free ++ z.at ∷ [])
-kept_last pool z free k =
-    let b = k.fit.0.within in
-    let w = k.wide in
-    record {
-      wide = k.wide;
-      fit = tt;
-      below = All-append (λ n. n < 512) free (z.at ∷ []) k.below ((let y : z.at < 512 = omega arith in y), tt);
-      count = omega (arith, k.count, length-append free (z.at ∷ []));
-      once = λ j.
-          let c : (same_number z.at j + 0) + listed j free ≤ 1 = k.once j in
-          let e = end_listed free z.at j in
-          let f : 0 + listed j (free ++ z.at ∷ []) ≤ 1 = omega arith in f;
-    }
+kept_last pool z free k = record {
+  few = k.few;
+  fit = tt;
+  below = All-append (λ n. n < length pool) free (z.at ∷ []) k.below (k.fit.0.within, tt);
+  count = omega (arith, k.count, length-append free (z.at ∷ []));
+  once = λ j.
+      let c : (same_number z.at j + 0) + listed j free ≤ 1 = k.once j in
+      let e = end_listed free z.at j in
+      let f : 0 + listed j (free ++ z.at ∷ []) ≤ 1 = omega arith in f;
+}
 
-different : (a k : ℕ) → a < k → same_number a k ≡ 0
-different a k h = grind (arith, nat_tests)
-
--- one more number is free
-pub more_free : (ns : List ℕ) (n k : ℕ) → ((j : ℕ) → listed j ns ≤ 1) → ((j : ℕ) → n ≤ j → listed j ns ≡ 0) → listed k (ns ++ n ∷ []) ≤ 1
-more_free ns n k o f =
-    let e = end_listed ns n k in
-    let a = o k in
-    ⊎_elim (λ (t : n ≡ k). let z = f k (omega arith) in let y = one_is n k t in omega arith) (λ (t : n ≡ k → ⊥). let y = unlike n k t in omega arith) (which n k)
-  where
-    unlike : (a k : ℕ) → (a ≡ k → ⊥) → same_number a k ≡ 0
-    unlike a k h = grind (arith, nat_tests)
-
-pub less_fresh : (ns : List ℕ) (n k : ℕ) → ((j : ℕ) → n ≤ j → listed j ns ≡ 0) → n + 1 ≤ k → listed k (ns ++ n ∷ []) ≡ 0
-less_fresh ns n k f h = let e = end_listed ns n k in let a = f k (omega arith) in let b = different n k (omega arith) in omega arith
-
--- of 512 free slots none is named
-pub kept_free : (pool : List Slot) (ns : List ℕ) → length pool ≡ 512 → AllByRecursion (λ n. n < 512) ns → length ns ≡ 512 → ((k : ℕ) → listed k ns ≤ 1) → Kept pool [] ns
-kept_free pool ns w b l o = record { wide = w; fit = tt; below = b; count = omega arith; once = λ k. let a = o k in omega arith }
+-- of an empty pool nothing is named or free
+pub kept_none : (pool : List Slot) (es : List Entry) (free : List ℕ) → pool ≡ [] → es ≡ [] → free ≡ [] → Kept pool es free
+kept_none pool es free p e f = subst (λ l. Kept l es free) (sym p) (subst (λ l. Kept [] l free) (sym e) (subst (Kept [] []) (sym f) (record { few = omega arith; fit = tt; below = tt; count = refl; once = λ k. omega arith })))

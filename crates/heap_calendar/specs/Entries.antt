@@ -4,7 +4,7 @@ use Rattle.std.specs.List.{AllByRecursion}
 use Rattle.slot.specs.declared.Slot.{Slot}
 use Rattle.heap_calendar.specs.declared.entry.Entry.{Entry}
 
--- what stands in the pool before anything is put
+-- what is read past the end of the pool
 abbrev pub blank : Slot
 blank = record { held = record { message = record { time = 0; receiver = 0; sender = 0; number = 0; kind = 0; «data» = 0 }; group = record { mask = 0 } }; age = 0 }
 
@@ -39,10 +39,10 @@ abbrev pub listed : ℕ → List ℕ → ℕ
 listed k [] = 0
 listed k (n ∷ ns) = same_number n k + listed k ns
 
--- of 512 slots each is named by one entry or is free
+-- each slot of the pool is named by one entry or is free
 pub record Kept (pool : List Slot) (es : List Entry) (free : List ℕ) : Type 0 where
-  pub wide : length pool ≡ 512
+  pub few : length pool ≤ 512
   pub fit : AllByRecursion (Fits pool) es
-  pub below : AllByRecursion (λ n. n < 512) free
-  pub count : length es + length free ≡ 512
+  pub below : AllByRecursion (λ n. n < length pool) free
+  pub count : length es + length free ≡ length pool
   pub once : (k : ℕ) → named k es + listed k free ≤ 1

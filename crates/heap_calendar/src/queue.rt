@@ -21,13 +21,11 @@ use crate::pick::nth;
 use crate::root::{below_child, first, live, put_in, root, second, settle};
 use crate::store::CAPACITY;
 use calendar::Held;
-use event::Message;
-use group::Group;
 use slot::Slot;
 use std::alloc::{AllocError, Global};
 use std::marker::Model;
 
-// The slots stay where they were put, and the entries in `order` are a heap. `next` is the age of the next put.
+// The slots stay where they were put, the entries in `order` are a heap, and what no entry names is free. `next` is the age of the next put.
 // A taken root stays until the next put, which goes in for it. There is room for 512, so no call allocates after `new`.
 #[derive(Drop)]
 pub(crate) struct Queue {
@@ -48,7 +46,7 @@ impl Model for Queue {
 
     ghost view = { λ q. record { held = in_order (standing q.taken (slots q.pool.items q.order.items)); next = q.next; fits = fits_in_order q.taken q.pool.items q.order q.short; sorted = in_order_sorted (standing q.taken (slots q.pool.items q.order.items)) } };
 
-    ghost invariant = { λ q. (512 ≤ vec_capacity q.order) × (512 ≤ vec_capacity q.free) × Sound q.next q.taken (slots q.pool.items q.order.items) × Kept q.pool.items q.order.items q.free.items };
+    ghost invariant = { λ q. (512 ≤ vec_capacity q.order) × (512 ≤ vec_capacity q.free) × Sound q.next q.taken (slots q.pool.items q.order.items) × Kept q.pool.items q.order.items q.free.items × (512 ≤ vec_capacity q.pool) };
 }
 
 impl Queue {
@@ -56,15 +54,10 @@ impl Queue {
         ensures held { IfOk result (λ q. q.held ≡ []) }
         ensures next { IfOk result (λ q. q.next ≡ 0) }
     {
-        let mut pool = Vec::with_capacity(memory, CAPACITY)?;
-        pool.resize(CAPACITY, blank())?;
-        let order = Vec::with_capacity(memory, CAPACITY)?;
-        let mut free = Vec::with_capacity(memory, CAPACITY)?;
-        free_all(&mut free);
         Ok(Queue {
-            pool,
-            order,
-            free,
+            pool: Vec::with_capacity(memory, CAPACITY)?,
+            order: Vec::with_capacity(memory, CAPACITY)?,
+            free: Vec::with_capacity(memory, CAPACITY)?,
             taken: false,
             next: 0,
         })
@@ -114,8 +107,9 @@ impl Queue {
         ensures held { self.new.held ≡ [] }
         ensures next { self.new.next ≡ 0 }
     {
+        self.pool.clear();
         self.order.clear();
-        free_all(&mut self.free);
+        self.free.clear();
         self.taken = false;
         self.next = 0;
     }
@@ -199,35 +193,5 @@ impl Queue {
                 self.push(changed);
             }
         }
-    }
-}
-
-// What stands in the pool before anything is put.
-fn blank() -> Slot {
-    Slot {
-        held: Held {
-            message: Message {
-                time: 0,
-                receiver: 0,
-                sender: 0,
-                number: 0,
-                kind: 0,
-                data: 0,
-            },
-            group: Group::empty(),
-        },
-        age: 0,
-    }
-}
-
-// Every slot is free.
-fn free_all(free: &mut Vec<u16>)
-    requires room { 512 ≤ vec_capacity free.old }
-    ensures kept { (pool : List Slot) → length pool ≡ 512 → Kept pool [] free.new.items }
-    ensures capacity { vec_capacity free.new ≡ vec_capacity free.old }
-{
-    free.clear();
-    for at in 0..CAPACITY as u16 {
-        free.push_reserved(at);
     }
 }

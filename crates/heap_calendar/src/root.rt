@@ -34,17 +34,24 @@ pub(crate) fn put_in(
 )
     requires rooted { taken ≡ true → 0 < vec_len order.old }
     requires room { taken ≡ false → vec_len order.old < 512 }
+    requires pool_reserved { 512 ≤ vec_capacity pool.old }
     requires reserved { 512 ≤ vec_capacity order.old }
     requires kept { Kept pool.old.items order.old.items free.old.items }
     ensures shuffled { IsPermutation (slot.now ∷ standing taken (slots pool.old.items order.old.items)) (slots pool.new.items order.new.items) }
     ensures built { KeepsHeap turned (slots pool.old.items order.old.items) (slots pool.new.items order.new.items) }
     ensures kept { Kept pool.new.items order.new.items free.new.items }
+    ensures pool_room { vec_capacity pool.new ≡ vec_capacity pool.old }
     ensures order_room { vec_capacity order.new ≡ vec_capacity order.old }
     ensures free_room { vec_capacity free.new ≡ vec_capacity free.old }
 {
     if taken {
         put_for_root(pool, order, slot);
     } else if let Some(at) = free.pop() {
+        put_at_end(pool, order, at, slot);
+    } else {
+        // none is free: one more, below the 512 that an entry can name
+        let at = pool.len() as u16;
+        pool.push_reserved(*slot);
         put_at_end(pool, order, at, slot);
     }
 }
@@ -59,6 +66,7 @@ fn put_for_root(pool: &mut Vec<Slot>, order: &mut [Entry], slot: &Slot)
     ensures fit { AllByRecursion (Fits pool.new.items) order.new }
     ensures named { (k : ℕ) → named k order.new ≡ named k order.old }
     ensures wide { vec_len pool.new ≡ vec_len pool.old }
+    ensures pool_room { vec_capacity pool.new ≡ vec_capacity pool.old }
 {
     let at = order[0].at;
     pool[usize::from(at)] = *slot;
@@ -76,6 +84,7 @@ fn put_at_end(pool: &mut Vec<Slot>, order: &mut Vec<Entry>, at: u16, slot: &Slot
     ensures fit { AllByRecursion (Fits pool.new.items) order.new.items }
     ensures named { (k : ℕ) → named k order.new.items ≡ same_number at k + named k order.old.items }
     ensures wide { vec_len pool.new ≡ vec_len pool.old }
+    ensures pool_room { vec_capacity pool.new ≡ vec_capacity pool.old }
     ensures order_room { vec_capacity order.new ≡ vec_capacity order.old }
 {
     pool[usize::from(at)] = *slot;

@@ -1,17 +1,26 @@
 -- The last entry goes in for the root, and finds its place.
 use Rattle.std.proofs.Common.{◌≡◌, ◌<◌, ◌∷◌, [], ◌++◌, length, get_or, set, sym, ap, ◌∙◌, subst, rules}
+use Rattle.std.specs.List.{AllByRecursion}
 use Rattle.std.specs.List.Sorted.{IsPermutation}
 use Rattle.std.specs.BinaryHeap.{IsHeap}
 use Rattle.std.proofs.lemmas.List.{get_or_default as any-default, nil_from_length}
 use Rattle.event.specs.Lists.{rest}
 use Rattle.slot.specs.Slots.{turned}
-use Rattle.heap_calendar.specs.Entries.{slots, no_entry, Kept}
+use Rattle.heap_calendar.specs.Entries.{slots, no_entry, Fits, Kept}
 use Rattle.heap_calendar.specs.declared.entry.Entry.{Entry}
 use Rattle.heap_calendar.specs.Sifts.{Mends}
 use Rattle.heap_calendar.proofs.Ends.{whole, dropped}
-use Rattle.heap_calendar.proofs.Keeps.{kept_drop, kept_last}
+use Rattle.heap_calendar.proofs.Keeps.{front_fits, kept_drop, kept_last}
 use Rattle.heap_calendar.proofs.Puts.{front_slots, drop_mended}
 use Rattle.heap_calendar.proofs.root.drop_root.Goals as goal
+
+pub replace_root-requires-clause-fit : goal.replace_root-requires-clause-fit
+replace_root-requires-clause-fit c =
+    let pool = c.args.pool.now in
+    let u = c.pop.new.self.items in
+    let z = c.in-Some.last in
+    let e : c.args.order.now.items ≡ u ++ z ∷ [] = c.in-Some.ensures.items in
+    subst (λ l. AllByRecursion (Fits pool) (set l 0 z)) (sym c.deref_mut.ensures.value) (front_fits pool u z (subst (AllByRecursion (Fits pool)) e c.requires.kept.fit))
 
 pub returns-then-is_empty-clause-built : goal.returns-then-is_empty-clause-built
 returns-then-is_empty-clause-built c = λ h.

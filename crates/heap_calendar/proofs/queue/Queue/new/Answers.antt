@@ -1,17 +1,13 @@
--- An empty heap is sound, and all slots are free.
-use Rattle.std.proofs.Common.{◌≡◌, length, ap, sym, ◌∙◌, subst, arith}
-use Rattle.heap_calendar.specs.Entries.{slots, Kept}
+-- An empty heap is sound, and nothing is named or free.
+use Rattle.std.proofs.Common.{ap}
+use Rattle.heap_calendar.specs.Entries.{slots}
+use Rattle.heap_calendar.proofs.Keeps.{kept_none}
 use Rattle.heap_calendar.proofs.Steps.{sound_none}
 use Rattle.heap_calendar.proofs.queue.Queue.new.Goals as goal
 
 pub invariant_of-result-2 : goal.invariant_of-result-2
 invariant_of-result-2 c =
-    let e = c.in_ok-order.ensures in
-    let pool = c.resize.new.self.items in
-    let free = c.free_all.new.free.items in
-    let wide : length pool ≡ 512 = sym c.resize.new.self.ok.0 ∙ c.in_ok-resize.ensures.len in (
-      e.capacity,
-      omega (arith, c.free_all.ensures.capacity, c.in_ok-free.ensures.capacity),
-      sound_none 0 _ (ap (slots pool) e.items),
-      subst (λ l. Kept pool l free) (sym e.items) (c.free_all.ensures.kept pool wide),
-    )
+    let p = c.in_ok-with_capacity.ensures in
+    let e = c.in_ok-with_capacity-2.ensures in
+    let f = c.in_ok-with_capacity-3.ensures in
+    (e.capacity, f.capacity, sound_none 0 _ (ap (slots _) e.items), kept_none _ _ _ p.items e.items f.items, p.capacity)

@@ -26,8 +26,9 @@ invariant_of-self-inside c =
     (let t : c.map-told.result ≡ option_map bare (option_copied c.root.result) = search rules in t)
     ∙ ap (option_map bare) (c.root.ensures ∙ (λ i. slice_get (slots (c.deref-2.ensures.value i) (c.deref-3.ensures.value i)) 0)) in
     let n = c.settle.ensures.kept.count in
+    let most = c.settle.ensures.kept.few in
     let some = rooted ys c.map-told.result c.is_some-self-inside.result told c.is_some-self-inside.ensures in
-    (omega (arith, n, v.ok.0), ((λ e. let k = some e in omega (arith, k, v.ok.0, many pool v.items)), tt))
+    (omega (arith, n, most, v.ok.0), ((λ e. let k = some e in omega (arith, k, v.ok.0, many pool v.items)), tt))
 
 pub invariant_of-self : goal.invariant_of-self
 invariant_of-self c =
@@ -49,6 +50,7 @@ invariant_of-self c =
       omega (arith, e.free_room, i.1),
       sound_taken s.next c.is_some-self-inside.result ys (sound_settled s.next s.taken xs ys p built i.2),
       kept,
+      i.4,
     )
 
 pub returns-clause-told : goal.returns-clause-told

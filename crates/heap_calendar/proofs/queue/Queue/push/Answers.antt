@@ -23,7 +23,8 @@ pub invariant_of-self-inside : goal.invariant_of-self-inside
 invariant_of-self-inside c =
     let v = c.put_in.new.order in
     let n = c.put_in.ensures.kept.count in
-    (omega (arith, n, v.ok.0), ((λ e. absurd (let y : ⊥ = cc in y)), tt))
+    let most = c.put_in.ensures.kept.few in
+    (omega (arith, n, most, v.ok.0), ((λ e. absurd (let y : ⊥ = cc in y)), tt))
 
 pub invariant_of-self : goal.invariant_of-self
 invariant_of-self c =
@@ -33,6 +34,7 @@ invariant_of-self c =
       omega (arith, e.free_room, c.self.invariant.1),
       sound_put s.taken (slots s.pool.items s.order.items) (young c.args.h s.next) (slots c.put_in.new.pool.items c.put_in.new.order.items) e.shuffled e.built c.self.invariant.2,
       e.kept,
+      omega (arith, e.pool_room, c.self.invariant.4),
     )
 
 pub returns-clause-held : goal.returns-clause-held
