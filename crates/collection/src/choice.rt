@@ -1,5 +1,5 @@
 // Which farm is chosen of those that wait, and which tanker of those that are free.
-ghost use Rattle.std.specs.Prelude.{◌≡◌, ◌≤◌, IfSome, ◌≢◌};
+ghost use Rattle.std.specs.Prelude.{◌≡◌, ◌≤◌, IfSome, ◌≢◌, if◌then◌else◌};
 ghost use Rattle.std.specs.Prelude.{◌-◌, fold, filter, None};
 ghost use Rattle.std.specs.List.{find, range_with_len};
 ghost use Rattle.collection.specs.Bits.{has};
@@ -44,13 +44,23 @@ fn better(order: u32, farm: u8, best: Option<u8>) -> Option<u8>
     }
 }
 
+// The same of a farm whose bit is set; any other leaves the best before it.
+fn better_of(order: u32, waiting: u32, farm: u8, best: Option<u8>) -> Option<u8>
+    ensures { result ≡ (if has waiting farm then rather (preferred order) farm best else best) }
+{
+    if has_bit(waiting, farm) {
+        better(order, farm, best)
+    } else {
+        best
+    }
+}
+
 // Of the farms among these whose bit is set, the one that goes ahead of the others.
 fn best_of(order: u32, waiting: u32, farms: Range<u8>) -> Option<u8>
     ensures { result ≡ fold (λ best i. rather (preferred order) i best) None (filter (has waiting) (range_with_len farms.start (farms.end - farms.start))) }
 {
-    farms
-        .filter(|farm| has_bit(waiting, *farm))
-        .fold(None, |best, farm| better(order, farm, best))
+    // one fold: a filter before it would go back into the range for each farm that waits
+    farms.fold(None, |best, farm| better_of(order, waiting, farm, best))
 }
 
 // The first of the tankers among these whose bit is set.
