@@ -72,6 +72,13 @@ mod tests {
             starts.as_slice(),
             [milk(0, 2, 1000), milk(5, 1, 500), milk(5, 3, 500)].as_slice()
         );
+        let first = plan.first_starts(rt.alloc(), 2)?;
+        assert_eq!(rt;
+            first.as_slice(),
+            [milk(0, 2, 1000), milk(5, 1, 500)].as_slice()
+        );
+        let all = plan.first_starts(rt.alloc(), 4)?;
+        assert_eq!(rt; all.as_slice(), starts.as_slice());
         Ok(())
     }
 

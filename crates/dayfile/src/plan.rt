@@ -1,5 +1,5 @@
 // The plan of a day, as its file tells it line by line.
-ghost use Rattle.std.specs.Prelude.{◌≡◌, ◌+◌, ◌<◌, ◌^◌, ◌⊎◌, ℕ, List, IfOk, Ok, Err, MatchResult, OnOk, map, vec_items};
+ghost use Rattle.std.specs.Prelude.{◌≡◌, ◌+◌, ◌<◌, ◌^◌, ◌⊎◌, ℕ, List, IfOk, Ok, Err, MatchResult, OnOk, map, take, vec_items};
 ghost use Rattle.dayfile.specs.Held.{sheet_of, answer, Memory, OutOfMemory};
 ghost use Rattle.dayfile.specs.Laws.{Sound};
 ghost use Rattle.dayfile.specs.Plans.{Sheet, noted, nothing_told, step, finished, read_text};
@@ -46,6 +46,17 @@ impl Plan {
         self.milkings
             .iter()
             .map(|milking| milking.start)
+            .collect(heap)
+    }
+
+    // The starts of the first milkings, at most so many, for a load that refuses a longer list whatever else is on it.
+    pub fn first_starts(&self, heap: Global, most: usize) -> Result<Vec<Start>, AllocError>
+        ensures { IfOk result (λ v. vec_items v ≡ take most (map (λ m. m.start) (vec_items self.now.milkings))) }
+    {
+        self.milkings
+            .iter()
+            .take(most)
+            .map(|first| first.start)
             .collect(heap)
     }
 }

@@ -1,2 +1,3 @@
 pub mod Smallest
 pub mod Noting
+pub mod Loading

@@ -11,7 +11,7 @@ use collection::{Collection, DAIRY, Preference};
 use day::{Place, Ran};
 use dayfile::Plan;
 use event::Message;
-use heap_calendar::store::HeapCalendar;
+use heap_calendar::store::{CAPACITY, HeapCalendar};
 use model::Model;
 use report::Ended;
 use sheet::{Parting, Standing, cause_of};
@@ -29,7 +29,8 @@ pub(crate) const PLANNED: u8 = 0;
 pub(crate) fn load(heap: Global, model: Collection, plan: &Plan) -> Result<DayStudy, StudyFault>
     ensures { IfOk result (NeverBranched contents_of (λ m. meaning_of m.farms m.tankers) (map (λ m. m.start) (vec_items plan.now.milkings)) plan.now.end) }
 {
-    let starts = plan.starts(heap)?;
+    // one more than the calendar holds is refused, whatever comes behind it
+    let starts = plan.first_starts(heap, CAPACITY + 1)?;
     let mut study = Study::new(heap, HeapCalendar::new(heap)?, model)?;
     study.load(starts.as_slice(), plan.end)?;
     Ok(study)
