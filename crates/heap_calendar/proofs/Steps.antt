@@ -1,5 +1,5 @@
 -- A heap of slots under a put and a take.
-use Rattle.std.proofs.Common.{◌≡◌, ℕ, ◌+◌, ◌<◌, Bool, true, false, List, [], ◌∷◌, length, Some, None, Option, sym, refl, ap, ◌∙◌, subst, arith}
+use Rattle.std.proofs.Common.{◌≡◌, ℕ, ◌+◌, ◌<◌, Bool, true, false, if◌then◌else◌, List, [], ◌∷◌, length, Some, None, Option, sym, refl, ap, ◌∙◌, subst, arith}
 use Rattle.std.specs.List.{slice_get}
 use Rattle.std.specs.List.Sorted.{IsPermutation}
 use Rattle.std.specs.BinaryHeap.{IsHeap, KeepsHeap}
@@ -16,7 +16,8 @@ use Rattle.slot.specs.Laws.{strictly}
 use Rattle.slot.proofs.Holds.{steady_push, steady_tail, length_in_order}
 use Rattle.slot.proofs.Picks.{first_rest, at_zero}
 use Rattle.std.proofs.lemmas.Option.{none-some}
-use Rattle.calendar.specs.Calls.{leading}
+use Rattle.calendar.specs.Calls.{leading, waiting}
+use Rattle.group.specs.Groups.{has}
 use Rattle.heap_calendar.specs.Totals.{Sound, standing}
 use Rattle.heap_calendar.proofs.Roots.{root_first}
 
@@ -83,3 +84,8 @@ none_is (x ∷ l) e = absurd (none-some x e)
 
 pub none_looked : (xs : List Slot) (i : ℕ) → None ≡ slice_get (ranked earlier xs) 0 → None ≡ slice_get (leading (in_order xs)) i
 none_looked xs i e = sym (ap (λ l. slice_get (leading (bares l)) i) (none_is (ranked earlier xs) e))
+
+-- the first of all is the first that v waits for, if v waits for it
+pub head_waits : (xs : List Slot) (x : Slot) (t : List Slot) (v : ℕ) → ranked earlier xs ≡ x ∷ t → has x.held.group v ≡ true → slice_get (waiting v (in_order xs)) 0 ≡ Some (bare x)
+head_waits xs x t v e h =
+    ap (λ l. slice_get (waiting v (bares l)) 0) e ∙ ap (λ b. slice_get (if b then bare x ∷ waiting v (bares t) else waiting v (bares t)) 0) h

@@ -1,5 +1,5 @@
 // Held messages in a binary heap of slots, by key and then older put first.
-ghost use Rattle.std.specs.Prelude.{◌≡◌, ◌+◌, ◌<◌, ◌≤◌, true, [], List, length, take, Option, vec_capacity, vec_items, vec_len, IfOk};
+ghost use Rattle.std.specs.Prelude.{◌≡◌, ◌+◌, ◌<◌, ◌≤◌, true, [], List, length, take, Option, Some, vec_capacity, vec_items, vec_len, IfOk, IfSome};
 ghost use Rattle.std.specs.Coded.{codes};
 ghost use Rattle.std.specs.List.{filter_map, slice_get};
 ghost use Rattle.event.specs.Lists.{insert, first, rest, Sorted};
@@ -143,10 +143,27 @@ impl Queue {
         find_heads(&self.pool, &self.order, self.taken, out);
     }
 
+    // The first of all, if v waits for it.
+    fn head_for(&self, v: u8) -> Option<Held>
+        ensures { IfSome result (λ h. slice_get (waiting v self.now.held) 0 ≡ Some h) }
+    {
+        let pool = self.pool.as_slice();
+        let head = first(pool, self.order.as_slice(), self.taken)?
+            .slot(pool)
+            .held;
+        if head.group.has(v) { Some(head) } else { None }
+    }
+
     // Number i, from 0, of those that wait for v.
     pub(crate) fn peek(&self, v: u8, i: usize) -> Option<Held>
         ensures { result ≡ slice_get (waiting v self.now.held) i }
     {
+        if i == 0 {
+            // mostly it is the first of all, and no other is gone over
+            if let Some(head) = self.head_for(v) {
+                return Some(head);
+            }
+        }
         let all = live(self.order.as_slice(), self.taken);
         nth(self.pool.as_slice(), all, |s| s.held.group.has(v), i).map(|s| s.held)
     }
