@@ -10,9 +10,9 @@ use Rattle.std.proofs.lemmas.List.Sums.{sum_by-cons}
 use Rattle.std_alloc.proofs.Permutation.{as_long, which}
 use Rattle.slot.specs.declared.Slot.{Slot}
 use Rattle.heap_calendar.specs.declared.entry.Entry.{Entry}
-use Rattle.heap_calendar.specs.Entries.{blank, slot_of, slots, entry_of, Fits, no_entry, named, listed, same_number, Kept}
+use Rattle.heap_calendar.specs.Entries.{blank, slot_of, slots, entry_of, Fits, no_entry, named, listed, same_number, KeptSoFar}
 
-one_is : (a k : ℕ) → a ≡ k → same_number a k ≡ 1
+pub one_is : (a k : ℕ) → a ≡ k → same_number a k ≡ 1
 one_is a k e = grind (arith, nat_tests)
 
 none_is : (a k : ℕ) → same_number a k ≡ 0 → a ≡ k → ⊥
@@ -93,7 +93,7 @@ pub same_named : (es fs : List Entry) (k : ℕ) → IsPermutation es fs → name
 same_named es fs k p = sym (summed fs k) ∙ sum_by-IsPermutation (λ e. same_number e.at k) es fs p ∙ summed es k
 
 -- after a put for the root
-pub kept_put : (pool pool' : List Slot) (es es' : List Entry) (free : List ℕ) → length pool' ≡ length pool → length es' ≡ length es → AllByRecursion (Fits pool') es' → ((k : ℕ) → named k es' ≡ named k es) → Kept pool es free → Kept pool' es' free
+pub kept_put : (pool pool' : List Slot) (es es' : List Entry) (free : List ℕ) → length pool' ≡ length pool → length es' ≡ length es → AllByRecursion (Fits pool') es' → ((k : ℕ) → named k es' ≡ named k es) → KeptSoFar pool es free → KeptSoFar pool' es' free
 kept_put pool pool' es es' free w l f n k = record {
   few = omega (arith, w, k.few);
   fit = f;
@@ -104,7 +104,7 @@ kept_put pool pool' es es' free w l f n k = record {
 
 -- after a put to a free place
 pub kept_end : (pool pool' : List Slot) (es es' : List Entry) (u : List ℕ) (at : ℕ) → length pool' ≡ length pool → length es' ≡ length es + 1 → AllByRecursion (Fits pool') es' → ((k : ℕ) → named k es' ≡ same_number at k + named k es)
-    → Kept pool es (u ++ at ∷ []) → Kept pool' es' u
+    → KeptSoFar pool es (u ++ at ∷ []) → KeptSoFar pool' es' u
 kept_end pool pool' es es' u at w l f n k = record {
   few = omega (arith, w, k.few);
   fit = f;
@@ -118,7 +118,7 @@ kept_end pool pool' es es' u at w l f n k = record {
     all_front m (x ∷ u) v a = (a.0, all_front m u v a.1)
 
 -- the last of the free ones stands in the pool, and no entry names it
-pub free_last : (pool : List Slot) (es : List Entry) (u : List ℕ) (at : ℕ) → Kept pool es (u ++ at ∷ []) → (at < length pool) × (named at es ≡ 0)
+pub free_last : (pool : List Slot) (es : List Entry) (u : List ℕ) (at : ℕ) → KeptSoFar pool es (u ++ at ∷ []) → (at < length pool) × (named at es ≡ 0)
 free_last pool es u at k =
     let one : same_number at at ≡ 1 = one_is at at refl in
     let a = k.once at in
@@ -129,35 +129,39 @@ free_last pool es u at k =
     last_of [] h = h.0
     last_of (x ∷ u) h = last_of u h.1
 
-other_is : (a k : ℕ) → (a ≡ k → ⊥) → same_number a k ≡ 0
+pub other_is : (a k : ℕ) → (a ≡ k → ⊥) → same_number a k ≡ 0
 other_is a k h = grind (arith, nat_tests)
 
--- one more slot in the pool, which no entry names
-module _ (pool : List Slot) (s : Slot) where
-  same_before : (e : Entry) → e.at < length pool → slot_of (pool ++ s ∷ []) e ≡ slot_of pool e
-  same_before e h = get_or_append_left pool (s ∷ []) blank e.at h
+-- more slots in the pool, which no entry names
+module _ (pool more : List Slot) where
+  same_before : (e : Entry) → e.at < length pool → slot_of (pool ++ more) e ≡ slot_of pool e
+  same_before e h = get_or_append_left pool more blank e.at h
 
-  pub fits_more : (es : List Entry) → AllByRecursion (Fits pool) es → AllByRecursion (Fits (pool ++ s ∷ [])) es
+  pub fits_more : (es : List Entry) → AllByRecursion (Fits pool) es → AllByRecursion (Fits (pool ++ more)) es
   fits_more [] a = tt
   fits_more (e ∷ es) a =
       let w = a.0.within in
-      (record { within = omega (arith, length-append pool (s ∷ [])); is = ap (λ x. entry_of x e.at) (same_before e w) ∙ a.0.is }, fits_more es a.1)
+      (record { within = omega (arith, length-append pool more); is = ap (λ x. entry_of x e.at) (same_before e w) ∙ a.0.is }, fits_more es a.1)
 
-  pub slots_more : (es : List Entry) → AllByRecursion (Fits pool) es → slots (pool ++ s ∷ []) es ≡ slots pool es
+  pub slots_more : (es : List Entry) → AllByRecursion (Fits pool) es → slots (pool ++ more) es ≡ slots pool es
   slots_more [] a = refl
   slots_more (e ∷ es) a = λ i. same_before e a.0.within i ∷ slots_more es a.1 i
 
-pub none_names : (pool : List Slot) (es : List Entry) → AllByRecursion (Fits pool) es → named (length pool) es ≡ 0
-none_names pool [] a = refl
-none_names pool (e ∷ es) a =
+-- no entry names a place past the end of the pool
+pub none_past : (pool : List Slot) (k : ℕ) (es : List Entry) → length pool ≤ k → AllByRecursion (Fits pool) es → named k es ≡ 0
+none_past pool k [] h a = refl
+none_past pool k (e ∷ es) h a =
     let w = a.0.within in
-    let n : same_number e.at (length pool) ≡ 0 = other_is e.at (length pool) (λ h. let z : ⊥ = omega arith in z) in
-    let m = none_names pool es a.1 in
-    let z : same_number e.at (length pool) + named (length pool) es ≡ 0 = omega arith in z
+    let n : same_number e.at k ≡ 0 = other_is e.at k (λ t. let z : ⊥ = omega arith in z) in
+    let m = none_past pool k es h a.1 in
+    let z : same_number e.at k + named k es ≡ 0 = omega arith in z
+
+pub none_names : (pool : List Slot) (es : List Entry) → AllByRecursion (Fits pool) es → named (length pool) es ≡ 0
+none_names pool es a = none_past pool (length pool) es (omega arith) a
 
 -- after a put to one more slot, where none is free
 pub kept_more : (pool pool' : List Slot) (es es' : List Entry) → length pool' ≡ length pool + 1 → length es' ≡ length es + 1 → length es < 512 → AllByRecursion (Fits pool') es' → ((k : ℕ) → named k es' ≡ same_number (length pool) k + named k es)
-    → Kept pool es [] → Kept pool' es' []
+    → KeptSoFar pool es [] → KeptSoFar pool' es' []
 kept_more pool pool' es es' w l low f n k = record {
   few = let c = k.count in omega (arith, w, low);
   fit = f;
@@ -180,7 +184,7 @@ front_fits pool [] z h = tt
 front_fits pool (x ∷ u) z h = let r = all_ends (Fits pool) (x ∷ u) z h in (r.1, r.0.1)
 
 -- after the root is dropped
-pub kept_drop : (pool : List Slot) (u es' : List Entry) (z : Entry) (free : List ℕ) → 0 < length u → IsPermutation (set u 0 z) es' → Kept pool (u ++ z ∷ []) free → Kept pool es' (free ++ (get_or u 0 no_entry).at ∷ [])
+pub kept_drop : (pool : List Slot) (u es' : List Entry) (z : Entry) (free : List ℕ) → 0 < length u → IsPermutation (set u 0 z) es' → KeptSoFar pool (u ++ z ∷ []) free → KeptSoFar pool es' (free ++ (get_or u 0 no_entry).at ∷ [])
 kept_drop pool [] es' z free h p k = absurd (let y : ⊥ = omega arith in y)
 kept_drop pool (x ∷ u) es' z free h p k =
     let l = as_long (z ∷ u) es' p in
@@ -197,7 +201,7 @@ kept_drop pool (x ∷ u) es' z free h p k =
           let f : named j es' + listed j (free ++ x.at ∷ []) ≤ 1 = omega arith in f;
     }
 
-pub kept_last : (pool : List Slot) (z : Entry) (free : List ℕ) → Kept pool (z ∷ []) free → Kept pool [] (free ++ z.at ∷ [])
+pub kept_last : (pool : List Slot) (z : Entry) (free : List ℕ) → KeptSoFar pool (z ∷ []) free → KeptSoFar pool [] (free ++ z.at ∷ [])
 kept_last pool z free k = record {
   few = k.few;
   fit = tt;
@@ -210,5 +214,5 @@ kept_last pool z free k = record {
 }
 
 -- of an empty pool nothing is named or free
-pub kept_none : (pool : List Slot) (es : List Entry) (free : List ℕ) → pool ≡ [] → es ≡ [] → free ≡ [] → Kept pool es free
-kept_none pool es free p e f = subst (λ l. Kept l es free) (sym p) (subst (λ l. Kept [] l free) (sym e) (subst (Kept [] []) (sym f) (record { few = omega arith; fit = tt; below = tt; count = refl; once = λ k. omega arith })))
+pub kept_none : (pool : List Slot) (es : List Entry) (free : List ℕ) → pool ≡ [] → es ≡ [] → free ≡ [] → KeptSoFar pool es free
+kept_none pool es free p e f = subst (λ l. KeptSoFar l es free) (sym p) (subst (λ l. KeptSoFar [] l free) (sym e) (subst (KeptSoFar [] []) (sym f) (record { few = omega arith; fit = tt; below = tt; count = refl; once = λ k. omega arith })))

@@ -12,7 +12,7 @@ ghost use Rattle.slot.specs.Passes.{Gives};
 ghost use Rattle.heap_calendar.specs.Line.{Line, fits_in_order};
 ghost use Rattle.slot.specs.Props.{sorted_prop};
 ghost use Rattle.heap_calendar.specs.Totals.{Sound, standing};
-ghost use Rattle.heap_calendar.specs.Entries.{Kept, slots};
+ghost use Rattle.heap_calendar.specs.Entries.{Kept, KeptSoFar, filled, filled_free, slots};
 ghost use Rattle.slot.specs.declared.Slot.{Slot};
 
 use crate::entry::Entry;
@@ -46,7 +46,7 @@ impl Model for Queue {
 
     ghost view = { λ q. record { held = in_order (standing q.taken (slots q.pool.items q.order.items)); next = q.next; fits = fits_in_order q.taken q.pool.items q.order q.short; sorted = in_order_sorted (standing q.taken (slots q.pool.items q.order.items)) } };
 
-    ghost invariant = { λ q. (512 ≤ vec_capacity q.order) × (512 ≤ vec_capacity q.free) × Sound q.next q.taken (slots q.pool.items q.order.items) × Kept q.pool.items q.order.items q.free.items × (512 ≤ vec_capacity q.pool) };
+    ghost invariant = { λ q. (512 ≤ vec_capacity q.order) × (512 ≤ vec_capacity q.free) × Sound q.next q.taken (slots q.pool.items q.order.items) × KeptSoFar q.pool.items q.order.items q.free.items × (512 ≤ vec_capacity q.pool) × Kept (filled q.pool.items) q.order.items (filled_free q.pool.items q.free.items) };
 }
 
 impl Queue {

@@ -7,7 +7,7 @@ ghost use Rattle.std.specs.BinaryHeap.{IsHeap, KeepsHeap};
 ghost use Rattle.event.specs.Lists.{rest};
 ghost use Rattle.slot.specs.Rank.{ranked};
 ghost use Rattle.slot.specs.Slots.{earlier, turned};
-ghost use Rattle.heap_calendar.specs.Entries.{Fits, Kept, slot_of, slots, named, same_number};
+ghost use Rattle.heap_calendar.specs.Entries.{Fits, Kept, KeptSoFar, slot_of, slots, named, same_number};
 ghost use Rattle.heap_calendar.specs.Totals.{standing};
 
 use crate::entry::Entry;
@@ -36,10 +36,11 @@ pub(crate) fn put_in(
     requires room { taken ≡ false → vec_len order.old < 512 }
     requires pool_reserved { 512 ≤ vec_capacity pool.old }
     requires reserved { 512 ≤ vec_capacity order.old }
-    requires kept { Kept pool.old.items order.old.items free.old.items }
+    requires kept { KeptSoFar pool.old.items order.old.items free.old.items }
     ensures shuffled { IsPermutation (slot.now ∷ standing taken (slots pool.old.items order.old.items)) (slots pool.new.items order.new.items) }
     ensures built { KeepsHeap turned (slots pool.old.items order.old.items) (slots pool.new.items order.new.items) }
-    ensures kept { Kept pool.new.items order.new.items free.new.items }
+    ensures kept { KeptSoFar pool.new.items order.new.items free.new.items }
+    ensures full { vec_len pool.old ≡ 512 → Kept pool.new.items order.new.items free.new.items }
     ensures pool_room { vec_capacity pool.new ≡ vec_capacity pool.old }
     ensures order_room { vec_capacity order.new ≡ vec_capacity order.old }
     ensures free_room { vec_capacity free.new ≡ vec_capacity free.old }
@@ -97,10 +98,11 @@ fn put_at_end(pool: &mut Vec<Slot>, order: &mut Vec<Entry>, at: u16, slot: &Slot
 // Lets a taken root go.
 pub(crate) fn settle(pool: &[Slot], order: &mut Vec<Entry>, free: &mut Vec<u16>, taken: bool)
     requires reserved { 512 ≤ vec_capacity free.old }
-    requires kept { Kept pool.now order.old.items free.old.items }
+    requires kept { KeptSoFar pool.now order.old.items free.old.items }
     ensures shuffled { IsPermutation (standing taken order.old.items) order.new.items }
     ensures built { KeepsHeap turned (slots pool.now order.old.items) (slots pool.now order.new.items) }
-    ensures kept { Kept pool.now order.new.items free.new.items }
+    ensures kept { KeptSoFar pool.now order.new.items free.new.items }
+    ensures full { length pool.now ≡ 512 → Kept pool.now order.new.items free.new.items }
     ensures order_room { vec_capacity order.new ≡ vec_capacity order.old }
     ensures free_room { vec_capacity free.new ≡ vec_capacity free.old }
 {
@@ -112,10 +114,11 @@ pub(crate) fn settle(pool: &[Slot], order: &mut Vec<Entry>, free: &mut Vec<u16>,
 // The last entry goes in for the root.
 fn drop_root(pool: &[Slot], order: &mut Vec<Entry>, free: &mut Vec<u16>)
     requires reserved { 512 ≤ vec_capacity free.old }
-    requires kept { Kept pool.now order.old.items free.old.items }
+    requires kept { KeptSoFar pool.now order.old.items free.old.items }
     ensures shuffled { IsPermutation (rest order.old.items) order.new.items }
     ensures built { KeepsHeap turned (slots pool.now order.old.items) (slots pool.now order.new.items) }
-    ensures kept { Kept pool.now order.new.items free.new.items }
+    ensures kept { KeptSoFar pool.now order.new.items free.new.items }
+    ensures full { length pool.now ≡ 512 → Kept pool.now order.new.items free.new.items }
     ensures order_room { vec_capacity order.new ≡ vec_capacity order.old }
     ensures free_room { vec_capacity free.new ≡ vec_capacity free.old }
 {

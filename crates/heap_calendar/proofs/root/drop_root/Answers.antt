@@ -6,10 +6,11 @@ use Rattle.std.specs.BinaryHeap.{IsHeap}
 use Rattle.std.proofs.lemmas.List.{get_or_default as any-default, nil_from_length}
 use Rattle.event.specs.Lists.{rest}
 use Rattle.slot.specs.Slots.{turned}
-use Rattle.heap_calendar.specs.Entries.{slots, no_entry, Fits, Kept}
+use Rattle.heap_calendar.specs.Entries.{slots, no_entry, Fits, KeptSoFar}
 use Rattle.heap_calendar.specs.declared.entry.Entry.{Entry}
 use Rattle.heap_calendar.specs.Sifts.{Mends}
 use Rattle.heap_calendar.proofs.Ends.{whole, dropped}
+use Rattle.heap_calendar.proofs.Filled.{kept_full}
 use Rattle.heap_calendar.proofs.Keeps.{front_fits, kept_drop, kept_last}
 use Rattle.heap_calendar.proofs.Puts.{front_slots, drop_mended}
 use Rattle.heap_calendar.proofs.root.drop_root.Goals as goal
@@ -41,7 +42,10 @@ returns-then-is_empty-clause-kept c =
     let none : length u ≡ 0 = search rules in
     let nil = nil_from_length u none in
     let e : es ≡ z ∷ [] = c.in-Some.ensures.items ∙ ap (λ l. l ++ z ∷ []) nil in
-    subst (λ l. Kept pool l c.push_reserved.new.self.items) (sym nil) (subst (Kept pool []) (sym c.push_reserved.ensures.items) (kept_last pool z f (subst (λ l. Kept pool l f) e c.requires.kept)))
+    subst (λ l. KeptSoFar pool l c.push_reserved.new.self.items) (sym nil) (subst (KeptSoFar pool []) (sym c.push_reserved.ensures.items) (kept_last pool z f (subst (λ l. KeptSoFar pool l f) e c.requires.kept)))
+
+pub returns-then-is_empty-clause-full : goal.returns-then-is_empty-clause-full
+returns-then-is_empty-clause-full c = λ w. kept_full c.args.pool.now c.pop.new.self.items c.push_reserved.new.self.items w (returns-then-is_empty-clause-kept c)
 
 pub returns-else-is_empty-clause-shuffled : goal.returns-else-is_empty-clause-shuffled
 returns-else-is_empty-clause-shuffled c =
@@ -86,6 +90,9 @@ returns-else-is_empty-clause-kept c =
     let p : IsPermutation (set u 0 z) es' = subst (λ l. IsPermutation (set l 0 z) es') d c.replace_root.ensures.shuffled in
     let f = c.args.free.now.items in
     let at : c.index.result.now ≡ get_or u 0 no_entry = c.index.ensures ∙ any-default u 0 c.index.result.now no_entry some in
-    let kept = kept_drop pool u es' z f some p (subst (λ l. Kept pool l f) e c.requires.kept) in
+    let kept = kept_drop pool u es' z f some p (subst (λ l. KeptSoFar pool l f) e c.requires.kept) in
     let g : f ++ (get_or u 0 no_entry).at ∷ [] ≡ c.push_reserved-else-is_empty.new.self.items = ap (λ (y : Entry). f ++ y.at ∷ []) (sym at) ∙ sym c.push_reserved-else-is_empty.ensures.items in
-    subst (λ l. Kept pool l c.push_reserved-else-is_empty.new.self.items) (sym is) (subst (Kept pool es') g kept)
+    subst (λ l. KeptSoFar pool l c.push_reserved-else-is_empty.new.self.items) (sym is) (subst (KeptSoFar pool es') g kept)
+
+pub returns-else-is_empty-clause-full : goal.returns-else-is_empty-clause-full
+returns-else-is_empty-clause-full c = λ w. kept_full c.args.pool.now _ _ w (returns-else-is_empty-clause-kept c)

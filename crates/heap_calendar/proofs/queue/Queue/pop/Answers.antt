@@ -5,7 +5,8 @@ use Rattle.std.specs.Option.{option_map, option_copied}
 use Rattle.event.specs.Lists.{rest, first as head}
 use Rattle.std.specs.BinaryHeap.{KeepsHeap}
 use Rattle.slot.specs.Slots.{bare, turned}
-use Rattle.heap_calendar.specs.Entries.{slots, Kept}
+use Rattle.heap_calendar.specs.Entries.{slots, KeptSoFar}
+use Rattle.heap_calendar.proofs.Filled.{kept_filled}
 use Rattle.heap_calendar.proofs.Moves.{many, settled_slots}
 use Rattle.heap_calendar.proofs.Steps.{sound_settled, sound_taken, settled_order, take_says, rooted}
 use Rattle.heap_calendar.proofs.queue.Queue.pop.Goals as goal
@@ -21,7 +22,7 @@ invariant_of-self-inside c =
     let d = c.deref.ensures.value in
     let p = settled_slots s.taken pool s.order.items v.items e.shuffled in
     let built = subst (λ w. KeepsHeap turned (slots w s.order.items) (slots w v.items)) d e.built in
-    let kept = subst (λ w. Kept w v.items c.settle.new.free.items) d e.kept in
+    let kept = subst (λ w. KeptSoFar w v.items c.settle.new.free.items) d e.kept in
     let told : c.map-told.result ≡ option_map bare (slice_get ys 0) =
     (let t : c.map-told.result ≡ option_map bare (option_copied c.root.result) = search rules in t)
     ∙ ap (option_map bare) (c.root.ensures ∙ (λ i. slice_get (slots (c.deref-2.ensures.value i) (c.deref-3.ensures.value i)) 0)) in
@@ -41,7 +42,7 @@ invariant_of-self c =
     let d = c.deref.ensures.value in
     let p = settled_slots s.taken pool s.order.items v.items e.shuffled in
     let built = subst (λ w. KeepsHeap turned (slots w s.order.items) (slots w v.items)) d e.built in
-    let kept = subst (λ w. Kept w v.items c.settle.new.free.items) d e.kept in
+    let kept = subst (λ w. KeptSoFar w v.items c.settle.new.free.items) d e.kept in
     let told : c.map-told.result ≡ option_map bare (slice_get ys 0) =
     (let t : c.map-told.result ≡ option_map bare (option_copied c.root.result) = search rules in t)
     ∙ ap (option_map bare) (c.root.ensures ∙ (λ i. slice_get (slots (c.deref-2.ensures.value i) (c.deref-3.ensures.value i)) 0)) in
@@ -51,6 +52,7 @@ invariant_of-self c =
       sound_taken s.next c.is_some-self-inside.result ys (sound_settled s.next s.taken xs ys p built i.2),
       kept,
       i.4,
+      kept_filled pool v.items c.settle.new.free.items kept,
     )
 
 pub returns-clause-told : goal.returns-clause-told
@@ -64,7 +66,7 @@ returns-clause-told c =
     let d = c.deref.ensures.value in
     let p = settled_slots s.taken pool s.order.items v.items e.shuffled in
     let built = subst (λ w. KeepsHeap turned (slots w s.order.items) (slots w v.items)) d e.built in
-    let kept = subst (λ w. Kept w v.items c.settle.new.free.items) d e.kept in
+    let kept = subst (λ w. KeptSoFar w v.items c.settle.new.free.items) d e.kept in
     let told : c.map-told.result ≡ option_map bare (slice_get ys 0) =
     (let t : c.map-told.result ≡ option_map bare (option_copied c.root.result) = search rules in t)
     ∙ ap (option_map bare) (c.root.ensures ∙ (λ i. slice_get (slots (c.deref-2.ensures.value i) (c.deref-3.ensures.value i)) 0)) in
@@ -81,7 +83,7 @@ returns-clause-held c =
     let d = c.deref.ensures.value in
     let p = settled_slots s.taken pool s.order.items v.items e.shuffled in
     let built = subst (λ w. KeepsHeap turned (slots w s.order.items) (slots w v.items)) d e.built in
-    let kept = subst (λ w. Kept w v.items c.settle.new.free.items) d e.kept in
+    let kept = subst (λ w. KeptSoFar w v.items c.settle.new.free.items) d e.kept in
     let told : c.map-told.result ≡ option_map bare (slice_get ys 0) =
     (let t : c.map-told.result ≡ option_map bare (option_copied c.root.result) = search rules in t)
     ∙ ap (option_map bare) (c.root.ensures ∙ (λ i. slice_get (slots (c.deref-2.ensures.value i) (c.deref-3.ensures.value i)) 0)) in

@@ -5,6 +5,7 @@ use Rattle.slot.specs.declared.Slot.{Slot}
 use Rattle.slot.proofs.Holds.{pushed}
 use Rattle.heap_calendar.specs.Totals.{standing}
 use Rattle.heap_calendar.specs.Entries.{slots}
+use Rattle.heap_calendar.proofs.Filled.{kept_filled}
 use Rattle.heap_calendar.proofs.Moves.{many}
 use Rattle.heap_calendar.proofs.Steps.{sound_put, room_for}
 use Rattle.heap_calendar.proofs.queue.Queue.push.Goals as goal
@@ -35,6 +36,7 @@ invariant_of-self c =
       sound_put s.taken (slots s.pool.items s.order.items) (young c.args.h s.next) (slots c.put_in.new.pool.items c.put_in.new.order.items) e.shuffled e.built c.self.invariant.2,
       e.kept,
       omega (arith, e.pool_room, c.self.invariant.4),
+      kept_filled _ _ _ e.kept,
     )
 
 pub returns-clause-held : goal.returns-clause-held
